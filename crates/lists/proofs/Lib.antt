@@ -1,0 +1,4 @@
+pub mod Ranges
+pub mod Windows
+pub mod Records
+pub mod Strings

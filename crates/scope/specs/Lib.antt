@@ -1,0 +1,5 @@
+pub mod Text
+pub mod Limits
+pub mod Elf
+pub mod Codes
+pub mod Refusals

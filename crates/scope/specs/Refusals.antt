@@ -1,0 +1,34 @@
+-- The refusal numbers of document 01's table, and what a test of one of them finds.
+use Prim.Native.Nat.{ℕ}
+use mathlib.Core.Bool.{Bool, true, false}
+use lib.Dec.{ltb}
+use Rattle.scope.specs.declared.Finding.{Finding}
+use Rattle.scope.specs.declared.Finding.the-variants.{Clear, At}
+
+-- 2 file header, 3 section headers, 4 section names, 5 symbol table, 6 relocation tables
+abbrev pub FILE_HEADER : ℕ
+FILE_HEADER = 2
+
+abbrev pub SECTION_HEADER : ℕ
+SECTION_HEADER = 3
+
+abbrev pub SECTION_NAME : ℕ
+SECTION_NAME = 4
+
+abbrev pub SYMBOL_TABLE : ℕ
+SYMBOL_TABLE = 5
+
+abbrev pub RELOCATION_TABLE : ℕ
+RELOCATION_TABLE = 6
+
+abbrev pub pickFinding : Bool → Finding → Finding → Finding
+pickFinding true a b = a
+pickFinding false a b = b
+
+-- a test that must hold, else the fault is at this place; then the tests after it
+abbrev pub expect : Bool → ℕ → Finding → Finding
+expect holds place rest = pickFinding holds rest (At place)
+
+-- what a search for a fault among n found: its index, or n where there is none
+unfoldable pub foundBelow : ℕ → ℕ → Finding
+foundBelow n i = pickFinding (ltb i n) (At i) Clear
