@@ -3,14 +3,14 @@
 use mathlib.Core.Path.{_≡_, refl, sym, ap, _∙_}
 use mathlib.Core.Logic.{_⊎_, ⊎-elim}
 use mathlib.Core.Bool.{Bool, true, false}
-use mathlib.Core.List.{List, [], _∷_, _++_, append-assoc}
+use mathlib.Core.List.{List, [], _∷_, _++_, append-assoc, append-nil}
 use Prim.Native.Nat.{ℕ, zero, suc, _+_, _*_, _≤_, _<_}
 use native.Mathlib.Nat.{add-zero, mul-zero, mul-suc}
 use native.Mathlib.Omega.{arith}
 use lib.ListN.{length, take, drop, getD, replicate, length-append}
 use Rattle.lists.specs.Windows.{Within, spliced}
 use Rattle.lists.specs.Records.{flat}
-use Rattle.lists.proofs.Windows.{part-of-part, part-before, part-after, within-at, within-head, within-tail, within-spliced, drop-next}
+use Rattle.lists.proofs.Windows.{part-of-part, part-before, part-after, within-at, within-head, within-tail, within-spliced, spliced-then, drop-next}
 use Rattle.lists.proofs.Records.{flat-none, flat-cons}
 use Rattle.fields.specs.declared.ByteOrder.{ByteOrder}
 use Rattle.fields.specs.Numbers.{number, encoded}
@@ -103,6 +103,26 @@ record-words order w zero (x ∷ xs) e = absurd (omega arith)
 record-words order w (suc n) [] e = absurd (omega arith)
 record-words order w (suc n) (x ∷ xs) e =
     rw (bytes-cons order w (replicate n w) x xs, flat-cons (encoded order w) x xs, record-words order w n xs (omega arith))
+
+pub record-one : (order : ByteOrder) (w x : ℕ) → encoded order w x ≡ recordBytes order (w ∷ []) (x ∷ [])
+record-one order w x = sym (rw (bytes-cons order w [] x [], bytes-none order []) (append-nil (encoded order w x)))
+
+-- a record written part by part: more fields, put right behind those before them
+pub record-then : (order : ByteOrder) (l : List ℕ) (o : ℕ) (ws vs us xs m b n : List ℕ) (p : ℕ) → length vs ≡ length ws → p ≡ o + widthOf ws
+    → p + length b ≤ length l → b ≡ recordBytes order us xs → m ≡ spliced l o (recordBytes order ws vs) → n ≡ spliced m p b
+    → n ≡ spliced l o (recordBytes order (ws ++ us) (vs ++ xs))
+record-then order l o ws vs us xs m b n p e at fits is before after =
+    let q : p ≡ o + length (recordBytes order ws vs) = rw (length-record order ws vs e) at in
+    after
+    ∙ ap (λ (x : List ℕ). spliced x p b) before
+    ∙ spliced-then l o (recordBytes order ws vs) b p q fits
+    ∙ rw (is, record-append order ws us vs xs e)
+
+pub field-then : (order : ByteOrder) (l : List ℕ) (o : ℕ) (ws vs : List ℕ) (w x : ℕ) (m n : List ℕ) (p : ℕ) → length vs ≡ length ws → p ≡ o + widthOf ws
+    → p + w ≤ length l → m ≡ spliced l o (recordBytes order ws vs) → n ≡ spliced m p (encoded order w x)
+    → n ≡ spliced l o (recordBytes order (ws ++ (w ∷ [])) (vs ++ (x ∷ [])))
+field-then order l o ws vs w x m n p e at fits before after =
+    record-then order l o ws vs (w ∷ []) (x ∷ []) m (encoded order w x) n p e at (rw (length-encoded order w x) fits) (record-one order w x) before after
 
 -- n fields of one byte are the bytes themselves
 pub flat-bytes : (order : ByteOrder) (xs : List ℕ) → flat (encoded order 1) xs ≡ xs

@@ -8,7 +8,7 @@ use native.Mathlib.Nat.{zero-add, suc-add, add-zero}
 use native.Mathlib.Numerals.{add-one}
 use native.Mathlib.Omega.{arith}
 use lib.ListN.{length, take, drop, getD, set, length-append, length-drop, take-append-drop, List·getD-append}
-use lib.Seq.{take-nil, take-suc, drop-cons, drop-drop, take-take, length-take-le, take-at, drop-at, take-append-seam, getD-append-add, getD-take, getD-drop, set-split}
+use lib.Seq.{take-nil, take-suc, drop-cons, drop-drop, drop-length, take-all, take-take, length-take-le, take-at, drop-at, take-append-seam, getD-append-add, getD-take, getD-drop, set-split}
 use Rattle.lists.specs.Windows.{Within, spliced}
 
 -- one element further, in the code's i + 1
@@ -217,3 +217,17 @@ pub spliced-copy : (l : List ℕ) (o : ℕ) (b : List ℕ) (i : ℕ) → o + len
 spliced-copy l o b i h k =
     let e : o + i ≡ o + length (take i b) = rw (length-take-le i b (omega arith)) in
     spliced-put l o (take i b) (o + i) (getD b i 0) e (omega arith) ∙ rw (take-next b i 0 k)
+
+-- a list overwritten from its front to its end is what was written; a turn of a loop that fills it so
+pub spliced-whole : (l b : List ℕ) → length b ≡ length l → spliced l 0 b ≡ b
+unfolding spliced
+spliced-whole l b e = rw (zero-add (length b), e, drop-length, append-nil b)
+
+pub spliced-fill : (l b m : List ℕ) (i x : ℕ) → length b ≡ length l → i < length b → x ≡ getD b i 0 → m ≡ spliced l 0 (take i b)
+    → set m i x ≡ spliced l 0 (take (i + 1) b)
+spliced-fill l b m i x e h is before =
+    let k : 0 + length b ≤ length l = omega arith in
+    rw (before, is) (ap (λ (n : ℕ). set (spliced l 0 (take i b)) n (getD b i 0)) (sym (zero-add i)) ∙ spliced-copy l 0 b i k h)
+
+pub spliced-filled : (l b m : List ℕ) (i : ℕ) → length b ≡ length l → length b ≤ i → m ≡ spliced l 0 (take i b) → m ≡ b
+spliced-filled l b m i e h before = before ∙ ap (spliced l 0) (take-all i b h) ∙ spliced-whole l b e

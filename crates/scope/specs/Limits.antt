@@ -14,3 +14,7 @@ SYMBOL_LIMIT = 4096
 -- of sh_addralign
 abbrev pub ALIGN_LIMIT : ℕ
 ALIGN_LIMIT = 65536
+
+-- blocks of a block file
+abbrev pub BLOCK_LIMIT : ℕ
+BLOCK_LIMIT = 1024

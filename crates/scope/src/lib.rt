@@ -9,6 +9,7 @@ pub const FILE_LIMIT: usize = 1048576;
 pub const SECTION_LIMIT: usize = 128;
 pub const SYMBOL_LIMIT: usize = 4096;
 pub const ALIGN_LIMIT: u32 = 65536;
+pub const BLOCK_LIMIT: usize = 1024;
 
 pub const ELFCLASS32: u8 = 1;
 pub const ELFDATA2LSB: u8 = 1;
