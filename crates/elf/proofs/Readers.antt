@@ -1,11 +1,13 @@
 -- Laws of the readers: which bytes the header fields are, and the byte order that a file states. Assumes nothing.
 use mathlib.Core.Path.{_≡_, refl, ap, _∙_}
-use mathlib.Core.Bool.{false}
+use mathlib.Core.Bool.{true, false}
 use mathlib.Core.List.{List, []}
 use Prim.Native.Nat.{ℕ, _+_, _-_, _*_, _≤_, _<_}
 use lib.ListN.{length, take, drop, getD, List·getD-eq-default}
 use native.Mathlib.Omega.{arith}
-use borrow.Author.Tests.{eq-eqb, ne-eqb, lt-ltb, le-ltb}
+use lib.Dec.{ltb}
+use borrow.Author.Tests.{eq-eqb, ne-eqb, lt-ltb, le-ltb, ltb-true}
+use Rattle.lists.proofs.Ranges.{and-parts}
 use Rattle.records.specs.declared.section.SectionHeader.{SectionHeader}
 use Rattle.scope.specs.Elf.{SHT_NOBITS, SHT_STRTAB}
 use Rattle.elf.specs.Bounds.{Headed}
@@ -80,3 +82,7 @@ module _ (o : ByteOrder) (F : List ℕ) (i : ℕ) (h : SectionHeader) (s : List 
   pub has-name-read : (name : List ℕ) → same (nameAt s (h .«sh_name»)) name ≡ hasName o F name i
   unfolding hasName
   has-name-read name = rw name-read
+
+pub strtab-lt : (o : ByteOrder) (F : List ℕ) (i : ℕ) → isStrtab o F i ≡ true → i < sectionCount o F
+unfolding isStrtab
+strtab-lt o F i e = ltb-true i (sectionCount o F) (and-parts (ltb i (sectionCount o F)) _ e .0)

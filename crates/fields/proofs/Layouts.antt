@@ -51,7 +51,7 @@ from-within order (suc w ∷ ws) (x ∷ vs) l o k p e v =
     let n : o + k + length f ≡ o + (k + suc w) = rw (length-encoded order (suc w) x) (omega arith) in
     let a : number order (suc w) l (o + k) ≡ x = within-number order w x (o + k) l (within-head f (recordBytes order ws vs) l (o + k) u) in
     let b : fieldsFrom order ws l o (k + suc w) ≡ vs =
-        from-within order ws vs l o (k + suc w) p (omega arith) (within-tail f (recordBytes order ws vs) l (o + k) (o + (k + suc w)) n u) in
+    from-within order ws vs l o (k + suc w) p (omega arith) (within-tail f (recordBytes order ws vs) l (o + k) (o + (k + suc w)) n u) in
     rw (a, b)
 
 -- what is read where a record's bytes stand is its fields
@@ -71,7 +71,7 @@ unfolding fieldsFrom widthOf
 from-same order n l m o p e [] k h = refl
 from-same order n l m o p e (w ∷ ws) k h =
     let s : take w (drop (o + k) l) ≡ take w (drop (p + k) m) =
-        sym (part-of-part l o n k w (omega arith)) ∙ ap (λ (x : List ℕ). take w (drop k x)) e ∙ part-of-part m p n k w (omega arith) in
+    sym (part-of-part l o n k w (omega arith)) ∙ ap (λ (x : List ℕ). take w (drop k x)) e ∙ part-of-part m p n k w (omega arith) in
     let a : number order w l (o + k) ≡ number order w m (p + k) = number-same order w l m (o + k) (p + k) s in
     rw (a, from-same order n l m o p e ws (k + w) (omega arith))
 

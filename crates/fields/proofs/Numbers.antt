@@ -53,7 +53,7 @@ pub within-number : (order : ByteOrder) (w x o : ℕ) (l : List ℕ) → Within 
 unfolding number
 within-number order w x o l v =
     let e : take (suc w) (drop o l) ≡ encoded order (suc w) x =
-        ap (λ (n : ℕ). take n (drop o l)) (sym (length-encoded order (suc w) x)) ∙ within-read (encoded order (suc w) x) l o v in
+    ap (λ (n : ℕ). take n (drop o l)) (sym (length-encoded order (suc w) x)) ∙ within-read (encoded order (suc w) x) l o v in
     rw e (number-encoded order w x)
 
 pub number-spliced : (order : ByteOrder) (w x o : ℕ) (l : List ℕ) → o + suc w ≤ length l → number order (suc w) (spliced l o (encoded order (suc w) x)) o ≡ x

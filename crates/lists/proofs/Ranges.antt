@@ -2,7 +2,7 @@
 -- changes each, what the result tells of the indices, and when two results are equal. Assumes nothing.
 use Prim.Native.Nat.{ℕ, zero, suc, min, _+_, _-_, _*_, _≤_, _<_}
 use mathlib.Core.Path.{_≡_, refl, sym, ap, _∙_}
-use mathlib.Core.Bool.{Bool, true, false, cond, true≢false}
+use mathlib.Core.Bool.{Bool, true, false, cond, _&&_, true≢false}
 use mathlib.Core.List.{List, [], _∷_, _++_, append-nil, append-assoc}
 use native.Mathlib.Nat.{add-zero, add-suc, mul-zero, mul-suc, one-mul}
 use native.Mathlib.Numerals.{add-one}
@@ -23,6 +23,14 @@ by-test false yes-case no-case = no-case refl
 -- no test has both values
 pub both {ℓ} : {A : Type ℓ} {b : Bool} → b ≡ true → b ≡ false → A
 both t f = absurd (true≢false (sym t ∙ f))
+
+-- both of two tests
+pub and-parts : (a b : Bool) → (a && b) ≡ true → (a ≡ true) × (b ≡ true)
+and-parts true b e = (refl, e)
+and-parts false b e = (e, both e refl)
+
+pub and-true : (a b : Bool) → a ≡ true → b ≡ true → (a && b) ≡ true
+and-true a b e f = rw (e, f)
 
 -- by the order of two numbers
 pub by-lt {ℓ} : {A : Type ℓ} (a b : ℕ) → (a < b → A) → (b ≤ a → A) → A

@@ -77,9 +77,9 @@ module _ {A : Type 0} (encode : A → List ℕ) where
       pub read-back : 0 < w → ((x : A) → decode (encode x) ≡ x) → (xs : List A) → readAll w decode (flat encode xs) ≡ xs
       read-back h same xs = read-flat h xs ∙ each xs
         where
-        each : (ys : List A) → map (λ x. decode (encode x)) ys ≡ ys
-        each [] = refl
-        each (y ∷ ys) = rw (same y, each ys)
+          each : (ys : List A) → map (λ x. decode (encode x)) ys ≡ ys
+          each [] = refl
+          each (y ∷ ys) = rw (same y, each ys)
 
 -- the k-th record that is read is the one at w * k, and as many are read as asked
 pub length-readN : {A : Type 0} (w : ℕ) (decode : List ℕ → A) (n : ℕ) (l : List ℕ) → length (readN w decode n l) ≡ n

@@ -194,7 +194,7 @@ spliced-then l o a b p e h =
     let k : o + length a ≤ length l = omega arith in
     let n : o + length (a ++ b) ≡ q + length b = rw length-append (omega arith) in
     let d : drop (q + length b) (spliced l o a) ≡ drop (q + length b) l =
-        sym (drop-drop (length b) q (spliced l o a)) ∙ ap (drop (length b)) (drop-spliced l o a k) ∙ drop-drop (length b) q l in
+    sym (drop-drop (length b) q (spliced l o a)) ∙ ap (drop (length b)) (drop-spliced l o a k) ∙ drop-drop (length b) q l in
     ap (λ (j : ℕ). spliced (spliced l o a) j b) e
     ∙ parts (spliced l o a) q b
     ∙ rw (take-through l o a k, d, append-assoc, parts l o (a ++ b), append-assoc, n)

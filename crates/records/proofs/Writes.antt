@@ -145,9 +145,9 @@ elf-written order h l o a b c d e f p q r s =
     let l₂ : length ((i ++ x) ++ y) ≡ 23 = rw (length-append, l₁) in
     let a′ : a ≡ spliced l o (recordBytes order (replicate 16 1) i) = p ∙ ap (spliced l o) (sym (record-bytes order 16 i e)) in
     let b′ = record-then order l o (replicate 16 1) i (replicate 2 2) x a (flat (encoded order 2) x) b (o + 16) e refl (omega arith)
-        (sym (record-words order 2 2 x refl)) a′ q in
+    (sym (record-words order 2 2 x refl)) a′ q in
     let c′ = record-then order l o (replicate 16 1 ++ replicate 2 2) (i ++ x) (replicate 5 4) y b (flat (encoded order 4) y) c (o + 20) l₁ refl (omega arith)
-        (sym (record-words order 4 5 y refl)) b′ r in
+    (sym (record-words order 4 5 y refl)) b′ r in
     record-then order l o ((replicate 16 1 ++ replicate 2 2) ++ replicate 5 4) ((i ++ x) ++ y) (replicate 6 2) z c (flat (encoded order 2) z) d (o + 40) l₂ refl (omega arith)
     (sym (record-words order 2 6 z refl)) c′ s
     ∙ ap (λ (v : List ℕ). spliced l o (recordBytes order elfLayout v)) (append-assoc (i ++ x) y z ∙ append-assoc i x (y ++ z))

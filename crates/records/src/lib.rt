@@ -5,6 +5,7 @@ mod header;
 mod relocation;
 mod section;
 mod symbol;
+
 pub use debug::Hdrr;
 pub use header::ElfHeader;
 pub use relocation::Addend;

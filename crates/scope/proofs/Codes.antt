@@ -3,9 +3,9 @@ use mathlib.Core.Path.{_≡_, refl, sym, ap}
 use mathlib.Core.List.{[]}
 use Prim.Native.Nat.{ℕ, zero, suc, _≤_, _<_}
 use native.Mathlib.Omega.{arith}
-use lib.ListN.{length, getD, List·getD-eq-default}
+use lib.ListN.{getD, List·getD-eq-default}
 use Rattle.scope.specs.Elf.{SHT_NULL}
-use Rattle.scope.specs.Codes.{Coded, sectionCodes, codeName, codeType, CODES}
+use Rattle.scope.specs.Codes.{Coded, sectionCodes, codeType, CODES}
 
 -- what is no code has type 0
 pub past-codes : (c : ℕ) → (1 ≤ c → CODES < c) → SHT_NULL ≡ codeType c

@@ -26,7 +26,7 @@ pickFinding true a b = a
 pickFinding false a b = b
 
 -- a test that must hold, else the fault is at this place; then the tests after it
-abbrev pub expect : Bool → ℕ → Finding → Finding
+unfoldable pub expect : Bool → ℕ → Finding → Finding
 expect holds place rest = pickFinding holds rest (At place)
 
 -- what a search for a fault among n found: its index, or n where there is none

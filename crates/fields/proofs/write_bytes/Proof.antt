@@ -40,10 +40,11 @@ loop-less c = search needs
 loop-again : tie.Need-loop-again Inv-loop μ-loop
 loop-again c =
     let a = c .before .before .before .args in
-    let l = c .before .before .loop in
-    (omega arith,
-    simp length-set (l .inv .1),
-    ap (λ (x : List ℕ). set x (a .at + l .i) (getD (now (a .bytes)) (l .i) 0)) (l .inv .2) ∙ spliced-copy (now (a .s)) (a .at) (now (a .bytes)) (l .i) (c .before .before .before .pre) (omega arith))
+    let l = c .before .before .loop in (
+      omega arith,
+      simp length-set (l .inv .1),
+      ap (λ (x : List ℕ). set x (a .at + l .i) (getD (now (a .bytes)) (l .i) 0)) (l .inv .2) ∙ spliced-copy (now (a .s)) (a .at) (now (a .bytes)) (l .i) (c .before .before .before .pre) (omega arith),
+    )
 
 same-length : tie.Need-same-length Inv-loop μ-loop
 same-length c = search needs

@@ -53,12 +53,13 @@ loop-again : tie.Need-loop-again Inv-loop μ-loop
 loop-again c =
     let a = c .before .before .before .before .before .before .before .before .before .args in
     let l = c .before .before .before .before .before .before .loop in
-    let w = c .before .before .write16 in
-    (omega arith,
-    w .kept .1 .0 ∙ l .inv .1,
-    w .ensures
-    ∙ ap (λ (x : List ℕ). spliced x (a .at + 2 * l .i) (encoded (a .order) 2 (getD (now (a .halves)) (l .i) 0))) (l .inv .2)
-    ∙ spliced-record (encoded (a .order) 2) 2 (length-encoded (a .order) 2) (now (a .s)) (a .at) (now (a .halves)) (l .i) 0 (c .before .before .before .before .before .before .before .before .before .pre .0) (omega arith))
+    let w = c .before .before .write16 in (
+      omega arith,
+      w .kept .1 .0 ∙ l .inv .1,
+      w .ensures
+          ∙ ap (λ (x : List ℕ). spliced x (a .at + 2 * l .i) (encoded (a .order) 2 (getD (now (a .halves)) (l .i) 0))) (l .inv .2)
+          ∙ spliced-record (encoded (a .order) 2) 2 (length-encoded (a .order) 2) (now (a .s)) (a .at) (now (a .halves)) (l .i) 0 (c .before .before .before .before .before .before .before .before .before .pre .0) (omega arith),
+    )
 
 same-length : tie.Need-same-length Inv-loop μ-loop
 same-length c = search needs

@@ -53,12 +53,13 @@ loop-again : tie.Need-loop-again Inv-loop μ-loop
 loop-again c =
     let a = c .before .before .before .before .before .before .before .before .before .args in
     let l = c .before .before .before .before .before .before .loop in
-    let w = c .before .before .write32 in
-    (omega arith,
-    w .kept .1 .0 ∙ l .inv .1,
-    w .ensures
-    ∙ ap (λ (x : List ℕ). spliced x (a .at + 4 * l .i) (encoded (a .order) 4 (getD (now (a .words)) (l .i) 0))) (l .inv .2)
-    ∙ spliced-record (encoded (a .order) 4) 4 (length-encoded (a .order) 4) (now (a .s)) (a .at) (now (a .words)) (l .i) 0 (c .before .before .before .before .before .before .before .before .before .pre) (omega arith))
+    let w = c .before .before .write32 in (
+      omega arith,
+      w .kept .1 .0 ∙ l .inv .1,
+      w .ensures
+          ∙ ap (λ (x : List ℕ). spliced x (a .at + 4 * l .i) (encoded (a .order) 4 (getD (now (a .words)) (l .i) 0))) (l .inv .2)
+          ∙ spliced-record (encoded (a .order) 4) 4 (length-encoded (a .order) 4) (now (a .s)) (a .at) (now (a .words)) (l .i) 0 (c .before .before .before .before .before .before .before .before .before .pre) (omega arith),
+    )
 
 same-length : tie.Need-same-length Inv-loop μ-loop
 same-length c = search needs

@@ -1,64 +1,47 @@
 -- Each arm of the match is a row of the table; what is left is 0, or lies past its last row. Assumes nothing.
-use mathlib.Core.Logic.{⊎-elim}
-use lib.ListN.{List·getD-eq-default}
 use Rattle.scope.specs.Codes.{codeType, sectionCodes}
 use Rattle.scope.proofs.Codes.{past-codes}
-use borrow.Author.Needs.{needs}
 use native.Mathlib.Omega.{arith}
-use Prim.Native.Nat.{ℕ, zero, suc, _+_, _-_, _*_, _≤_, _<_}
-use mathlib.Core.Path.{_≡_, refl, sym, ap, _∙_}
-use mathlib.Core.List.{List, [], _∷_, _++_}
-use mathlib.Core.Bool.{Bool, true, false, cond}
-use lib.ListN.{length, getD, take, drop, set, length-set}
-use denote.Ref.{now}
+use mathlib.Core.Path.{_≡_}
 use Rattle.scope.proofs.code_type.Statement.{statement}
 use Rattle.scope.proofs.code_type.Tie as tie
-use Rattle.scope.proofs.code_type.Reads as reads
-use Rattle.scope.proofs.code_type.Lts as lts
 
--- src/lib.rt:72:1
 returns : tie.Need-returns
 unfolding codeType sectionCodes
 returns c =
     let e : c .before .args .code ≡ 1 = omega arith in
     rw e
 
--- src/lib.rt:72:1
 returns-2 : tie.Need-returns-2
 unfolding codeType sectionCodes
 returns-2 c =
     let e : c .before .args .code ≡ 2 = omega arith in
     rw e
 
--- src/lib.rt:72:1
 returns-3 : tie.Need-returns-3
 unfolding codeType sectionCodes
 returns-3 c =
     let e : c .before .args .code ≡ 3 = omega arith in
     rw e
 
--- src/lib.rt:72:1
 returns-4 : tie.Need-returns-4
 unfolding codeType sectionCodes
 returns-4 c =
     let e : c .before .args .code ≡ 4 = omega arith in
     rw e
 
--- src/lib.rt:72:1
 returns-5 : tie.Need-returns-5
 unfolding codeType sectionCodes
 returns-5 c =
     let e : c .before .args .code ≡ 5 = omega arith in
     rw e
 
--- src/lib.rt:72:1
 returns-6 : tie.Need-returns-6
 unfolding codeType sectionCodes
 returns-6 c =
     let e : c .before .args .code ≡ 6 = omega arith in
     rw e
 
--- src/lib.rt:72:1
 returns-7 : tie.Need-returns-7
 returns-7 c = past-codes (c .before .args .code) (omega arith)
 

@@ -1,23 +1,14 @@
 -- The two arms are the two cases of `expect`. Assumes nothing.
-use native.Mathlib.Omega.{arith}
-use Prim.Native.Nat.{ℕ, zero, suc, _+_, _-_, _*_, _≤_, _<_}
-use mathlib.Core.Path.{_≡_, refl, sym, ap, _∙_}
-use mathlib.Core.List.{List, [], _∷_, _++_}
-use mathlib.Core.Bool.{Bool, true, false, cond}
-use lib.ListN.{length, getD, take, drop, set, length-set}
-use denote.Ref.{now}
-use borrow.Author.Needs.{needs}
+use Rattle.scope.specs.Refusals.{expect}
 use Rattle.scope.proofs.expected.Statement.{statement}
 use Rattle.scope.proofs.expected.Tie as tie
-use Rattle.scope.proofs.expected.Reads as reads
-use Rattle.scope.proofs.expected.Lts as lts
 
--- src/lib.rt:51:1
 returns : tie.Need-returns
-returns c = search needs
+unfolding expect
+returns c = rw (c .if1 .taken)
 
--- src/lib.rt:51:1
 returns-2 : tie.Need-returns-2
+unfolding expect
 returns-2 c = rw (c .if1 .left)
 
 pub expected-spec : {M : Type 1} → statement M

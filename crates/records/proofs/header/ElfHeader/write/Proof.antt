@@ -29,10 +29,10 @@ six a b c d e f p q r s t u zero h = p
 six a b c d e f p q r s t u (suc zero) h = q
 six a b c d e f p q r s t u (suc (suc i)) h = four i (omega arith)
   where
-  four : (i : ℕ) → i < 4 → getD (c ∷ d ∷ e ∷ f ∷ []) i 0 < 65536
-  four zero h = r
-  four (suc zero) h = s
-  four (suc (suc i)) h = two e f t u i (omega arith)
+    four : (i : ℕ) → i < 4 → getD (c ∷ d ∷ e ∷ f ∷ []) i 0 < 65536
+    four zero h = r
+    four (suc zero) h = s
+    four (suc (suc i)) h = two e f t u i (omega arith)
 
 slice-aggregate-write-bytes : tie.Need-slice-aggregate-write-bytes
 slice-aggregate-write-bytes c = search needs

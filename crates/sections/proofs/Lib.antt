@@ -1,0 +1,4 @@
+pub mod FileHeader
+pub mod Headers
+pub mod Names
+pub mod Bounds

@@ -1,0 +1,3 @@
+pub mod FileHeader
+pub mod Headers
+pub mod Names
