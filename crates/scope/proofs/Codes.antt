@@ -16,5 +16,5 @@ past-codes (suc c) h =
     let e : getD sectionCodes (suc c) none ≡ none = List·getD-eq-default sectionCodes none {n = suc c} (omega arith) in
     ap (λ (x : Coded). x .type) (sym e)
   where
-  none : Coded
-  none = record { name = []; type = SHT_NULL }
+    none : Coded
+    none = record { name = []; type = SHT_NULL }

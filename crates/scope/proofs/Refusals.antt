@@ -22,9 +22,9 @@ pub found-clear : (n i : ℕ) → foundBelow n i ≡ Clear → n ≤ i
 unfolding foundBelow
 found-clear n i e = ltb-false i n (expect-no (ltb i n) i e)
   where
-  expect-no : (b : Bool) (i : ℕ) → pickFinding b (At i) Clear ≡ Clear → b ≡ false
-  expect-no true i e = cc
-  expect-no false i e = refl
+    expect-no : (b : Bool) (i : ℕ) → pickFinding b (At i) Clear ≡ Clear → b ≡ false
+    expect-no true i e = cc
+    expect-no false i e = refl
 
 -- a test that holds leaves the rest; one that does not is the fault
 pub expect-true : (b : Bool) (place : ℕ) (rest : Finding) → b ≡ true → expect b place rest ≡ rest

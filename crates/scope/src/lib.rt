@@ -6,40 +6,67 @@ ghost use Rattle.scope.specs.Codes.{codeType};
 ghost use Rattle.scope.specs.Refusals.{expect, foundBelow};
 
 pub const FILE_LIMIT: usize = 1048576;
+
 pub const SECTION_LIMIT: usize = 128;
+
 pub const SYMBOL_LIMIT: usize = 4096;
+
 pub const ALIGN_LIMIT: u32 = 65536;
+
 pub const BLOCK_LIMIT: usize = 1024;
 
 pub const ELFCLASS32: u8 = 1;
+
 pub const ELFDATA2LSB: u8 = 1;
+
 pub const ELFDATA2MSB: u8 = 2;
+
 pub const ET_REL: u32 = 1;
+
 pub const EM_MIPS: u32 = 8;
 
 pub const SHT_NULL: u32 = 0;
+
 pub const SHT_PROGBITS: u32 = 1;
+
 pub const SHT_SYMTAB: u32 = 2;
+
 pub const SHT_STRTAB: u32 = 3;
+
 pub const SHT_RELA: u32 = 4;
+
 pub const SHT_NOBITS: u32 = 8;
+
 pub const SHT_REL: u32 = 9;
+
 pub const SHT_MIPS_REGINFO: u32 = 0x70000006;
+
 pub const SHF_LINK_ORDER: u32 = 0x80;
+
 pub const SHN_LORESERVE: u32 = 0xff00;
+
 pub const SHN_XINDEX: u32 = 0xffff;
 
 pub const TEXT: u32 = 1;
+
 pub const DATA: u32 = 2;
+
 pub const RODATA: u32 = 3;
+
 pub const BSS: u32 = 4;
+
 pub const LATE_RODATA: u32 = 5;
+
 pub const REGINFO: u32 = 6;
 
 pub const FILE_HEADER: u32 = 2;
+
 pub const SECTION_HEADER: u32 = 3;
+
 pub const SECTION_NAME: u32 = 4;
+
 pub const SYMBOL_TABLE: u32 = 5;
+
 pub const RELOCATION_TABLE: u32 = 6;
 
 // What the test of a refusal number finds: nothing at fault, or the place that is reported.
@@ -59,7 +86,11 @@ pub fn expected(holds: bool, place: usize, rest: Finding) -> Finding
 pub fn found_below(n: usize, i: usize) -> Finding
     ensures { λ r. ⌜ r ≡ foundBelow n i ⌝ }
 {
-    if i < n { Finding::At(i) } else { Finding::Clear }
+    if i < n {
+        Finding::At(i)
+    } else {
+        Finding::Clear
+    }
 }
 
 // Both of two tests.

@@ -40,8 +40,8 @@ module _ (o : ByteOrder) (F : List ℕ) where
   unfolding sectionFault badSection
   sections-sound e i l = sound-of i (none-found (badSection o F) (sectionCount o F) (expect-clear _ 0 _ e .1) i l)
     where
-    sound-of : (i : ℕ) → badSection o F i ≡ false → sectionSound o F i ≡ true
-    sound-of i b = not-false (sectionSound o F i) b
+      sound-of : (i : ℕ) → badSection o F i ≡ false → sectionSound o F i ≡ true
+      sound-of i b = not-false (sectionSound o F i) b
 
   -- the parts of a sound section
   module _ (i : ℕ) (s : sectionSound o F i ≡ true) where
@@ -100,8 +100,8 @@ module _ (o : ByteOrder) (F : List ℕ) where
   unfolding nameFault badName nameSound
   names-sound e i l = parts i (none-found (badName o F) (sectionCount o F) (expect-clear _ 0 _ e .1) i l)
     where
-    parts : (i : ℕ) → badName o F i ≡ false → (hasEnd (sectionStrings o F) (section o F i .«sh_name») ≡ true) × (ascii (sectionName o F i) ≡ true)
-    parts i b = and-parts (hasEnd (sectionStrings o F) (section o F i .«sh_name»)) (ascii (sectionName o F i)) (not-false (nameSound o F i) b)
+      parts : (i : ℕ) → badName o F i ≡ false → (hasEnd (sectionStrings o F) (section o F i .«sh_name») ≡ true) × (ascii (sectionName o F i) ≡ true)
+      parts i b = and-parts (hasEnd (sectionStrings o F) (section o F i .«sh_name»)) (ascii (sectionName o F i)) (not-false (nameSound o F i) b)
 
   -- ---- types
 
@@ -116,8 +116,8 @@ module _ (o : ByteOrder) (F : List ℕ) where
       absurd (omega arith))
       (λ t. t)
     where
-    present : (i : ℕ) → mistyped o F i ≡ true → codedAfter o F i < sectionCount o F
-    present i t = ltb-true (codedSection o F (i + 1)) (sectionCount o F) (and-parts (ltb (codedSection o F (i + 1)) (sectionCount o F)) _ t .0)
+      present : (i : ℕ) → mistyped o F i ≡ true → codedAfter o F i < sectionCount o F
+      present i t = ltb-true (codedSection o F (i + 1)) (sectionCount o F) (and-parts (ltb (codedSection o F (i + 1)) (sectionCount o F)) _ t .0)
 
   -- the section of a code has the type that document 01 asks
   pub types-sound : typeFault o F ≡ Clear → (i : ℕ) → i < CODES → codedSection o F (i + 1) < sectionCount o F → section o F (codedSection o F (i + 1)) .«sh_type» ≡ codeType (i + 1)

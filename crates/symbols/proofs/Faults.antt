@@ -67,7 +67,7 @@ module _ (o : ByteOrder) (F : List ℕ) where
 
   pub sound-read : (k ends sections : ℕ) (s : SymbolEntry) (strings : List ℕ) (null index inner r : Bool)
       → s ≡ symbol o F k → strings ≡ symbolStrings o F → ends ≡ pastLast (zeroAt strings) (length strings) → sections ≡ sectionCount o F
-      → null ≡ nullSound o F k → index ≡ indexSound sections (s .«st_shndx») 
+      → null ≡ nullSound o F k → index ≡ indexSound sections (s .«st_shndx»)
       → inner ≡ (null && index) → r ≡ (ltb (s .«st_name») ends && inner) → r ≡ symbolSound o F k
   unfolding symbolSound
   sound-read k ends sections s strings null index inner r is p q u v w d e =

@@ -113,8 +113,15 @@ fn is_index_sound(count: usize, x: u32) -> bool
     scope::both(scope::SHN_LORESERVE <= x, x < scope::SHN_XINDEX)
 }
 
-// Whether symbol k is entry 0 exactly as it must be, or another; s is its entry.
-fn is_null_sound(order: ByteOrder, file: &[u8], base: usize, count: usize, strings: &[u8], k: usize) -> bool
+// Whether symbol k is entry 0 exactly as it must be, or another one.
+fn is_null_sound(
+    order: ByteOrder,
+    file: &[u8],
+    base: usize,
+    count: usize,
+    strings: &[u8],
+    k: usize,
+) -> bool
     requires { ⌜ Table order (now file) base count (now strings) × (k < count) ⌝ }
     ensures { λ r. ⌜ r ≡ nullSound order (now (file .entry)) k ⌝ }
 {
@@ -182,7 +189,14 @@ pub fn symbol_fault(order: ByteOrder, file: &[u8]) -> Finding
 }
 
 // The name of symbol k, as a part of the strings.
-pub fn symbol_name<'a>(order: ByteOrder, file: &[u8], base: usize, count: usize, strings: &'a [u8], k: usize) -> &'a [u8]
+pub fn symbol_name<'a>(
+    order: ByteOrder,
+    file: &[u8],
+    base: usize,
+    count: usize,
+    strings: &'a [u8],
+    k: usize,
+) -> &'a [u8]
     requires { ⌜ Table order (now file) base count (now strings) × (k < count) ⌝ }
     ensures { λ r. ⌜ now r ≡ symbolName order (now (file .entry)) k ⌝ }
 {
@@ -191,7 +205,15 @@ pub fn symbol_name<'a>(order: ByteOrder, file: &[u8], base: usize, count: usize,
 }
 
 // Whether symbol k has a name.
-fn is_symbol_named(order: ByteOrder, file: &[u8], base: usize, count: usize, strings: &[u8], name: &[u8], k: usize) -> bool
+fn is_symbol_named(
+    order: ByteOrder,
+    file: &[u8],
+    base: usize,
+    count: usize,
+    strings: &[u8],
+    name: &[u8],
+    k: usize,
+) -> bool
     requires { ⌜ Table order (now file) base count (now strings) × (k < count) ⌝ }
     ensures { λ r. ⌜ r ≡ isSymbolNamed order (now (file .entry)) (now (name .entry)) k ⌝ }
 {
@@ -200,7 +222,14 @@ fn is_symbol_named(order: ByteOrder, file: &[u8], base: usize, count: usize, str
 }
 
 // The first symbol of a name, or the symbol count.
-pub fn symbol_named(order: ByteOrder, file: &[u8], base: usize, count: usize, strings: &[u8], name: &[u8]) -> usize
+pub fn symbol_named(
+    order: ByteOrder,
+    file: &[u8],
+    base: usize,
+    count: usize,
+    strings: &[u8],
+    name: &[u8],
+) -> usize
     requires { ⌜ Table order (now file) base count (now strings) ⌝ }
     ensures { λ r. ⌜ r ≡ symbolNamed order (now (file .entry)) (now (name .entry)) ⌝ }
 {

@@ -38,12 +38,14 @@ loop-holds c = (omega arith, refl)
 is-symbol-sound-requires : tie.Need-is-symbol-sound-requires Inv-loop μ-loop
 is-symbol-sound-requires c κs =
     let t = c .before .before .before .before in
-    let q = t .before .before .before .before .pre in
-    (record {
-      table = record { tabled = q; at = t .before .before .symbols-start .ensures; many = t .before .symbol-count .ensures; names = t .symbol-strings .ensures };
-      past = c .before .before .before .past-last-zero .ensures;
-      known = c .before .before .section-count .ensures .0;
-    }, c .loop-test .taken)
+    let q = t .before .before .before .before .pre in (
+      record {
+        table = record { tabled = q; at = t .before .before .symbols-start .ensures; many = t .before .symbol-count .ensures; names = t .symbol-strings .ensures };
+        past = c .before .before .before .past-last-zero .ensures;
+        known = c .before .before .section-count .ensures .0;
+      },
+      c .loop-test .taken,
+    )
 
 add-k : tie.Need-add-k Inv-loop μ-loop
 add-k c = search needs

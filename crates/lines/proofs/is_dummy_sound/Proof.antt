@@ -1,0 +1,18 @@
+-- `lines::is_dummy_sound` meets its contract: the two tests are those of `dummySound`. Assumes nothing.
+use Rattle.lines.specs.Values.{dummySound}
+use borrow.Author.Needs.{needs}
+use Rattle.lines.proofs.is_dummy_sound.Statement.{statement}
+use Rattle.lines.proofs.is_dummy_sound.Tie as tie
+
+are-hex-digits-requires : tie.Need-are-hex-digits-requires
+are-hex-digits-requires c κs = search needs
+
+both-requires : tie.Need-both-requires
+both-requires c κs = search needs
+
+returns : tie.Need-returns
+unfolding dummySound
+returns c = cc
+
+pub is-dummy-sound-spec : {M : Type 1} → statement M
+is-dummy-sound-spec = tie.close (tie.spec are-hex-digits-requires both-requires returns)

@@ -1,0 +1,18 @@
+-- `lines::is_label_sound` meets its contract: the two tests are those of `labelSound`. Assumes nothing.
+use Rattle.lines.specs.Values.{labelSound}
+use borrow.Author.Needs.{needs}
+use Rattle.lines.proofs.is_label_sound.Statement.{statement}
+use Rattle.lines.proofs.is_label_sound.Tie as tie
+
+space-in-requires : tie.Need-space-in-requires
+space-in-requires c κs = search needs
+
+both-requires : tie.Need-both-requires
+both-requires c κs = search needs
+
+returns : tie.Need-returns
+unfolding labelSound
+returns c = cc
+
+pub is-label-sound-spec : {M : Type 1} → statement M
+is-label-sound-spec = tie.close (tie.spec space-in-requires both-requires returns)

@@ -1,0 +1,52 @@
+-- `lines::is_span_sound` meets its contract: a span begins with a label, and else its two numbers decide. Assumes nothing.
+use Rattle.lines.specs.Values.{numberSound, sizeIn, alignIn}
+use Rattle.lines.proofs.Values.{span-none, span-numbers}
+use mathlib.Core.Bool.{_&&_}
+use mathlib.Core.Path.{_≡_, sym, _∙_}
+use denote.Ref.{now}
+use borrow.Author.Needs.{needs}
+use Rattle.lines.proofs.is_span_sound.Statement.{statement}
+use Rattle.lines.proofs.is_span_sound.Tie as tie
+
+space-in-requires : tie.Need-space-in-requires
+space-in-requires c κs = search needs
+
+returns : tie.Need-returns
+returns c = sym (span-none (now (c .before .before .before .args .v)) (sym (c .before .space-in .ensures) ∙ c .if1 .taken))
+
+size-in-requires : tie.Need-size-in-requires
+size-in-requires c κs = search needs
+
+is-number-sound-requires : tie.Need-is-number-sound-requires
+is-number-sound-requires c κs = search needs
+
+align-in-requires : tie.Need-align-in-requires
+align-in-requires c κs = search needs
+
+is-number-sound-requires-2 : tie.Need-is-number-sound-requires-2
+is-number-sound-requires-2 c κs = search needs
+
+both-requires : tie.Need-both-requires
+both-requires c κs = search needs
+
+returns-2 : tie.Need-returns-2
+returns-2 c =
+    let v = now (c .before .before .before .before .before .before .before .before .args .v) in
+    let s : c .before .before .before .is-number-sound .result ≡ numberSound 1048576 (sizeIn v) = cc in
+    let a : c .before .is-number-sound2 .result ≡ numberSound 8 (alignIn v) = cc in
+    let t : c .both .result ≡ (numberSound 1048576 (sizeIn v) && numberSound 8 (alignIn v)) = cc in
+    let n = c .before .before .before .before .before in
+    t ∙ sym (span-numbers v (λ e. n .if1 .left (n .before .space-in .ensures ∙ e)))
+
+pub is-span-sound-spec : {M : Type 1} → statement M
+is-span-sound-spec =
+    tie.close
+    (tie.spec
+    space-in-requires
+    returns
+    size-in-requires
+    is-number-sound-requires
+    align-in-requires
+    is-number-sound-requires-2
+    both-requires
+    returns-2)
