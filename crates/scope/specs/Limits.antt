@@ -18,3 +18,10 @@ ALIGN_LIMIT = 65536
 -- blocks of a block file
 abbrev pub BLOCK_LIMIT : ℕ
 BLOCK_LIMIT = 1024
+
+-- the least lengths of the working buffers (docs/SIZES.md): rows of 48 bytes for 1,024 blocks, and of 8 for their 4,096 lines
+abbrev pub BLOCK_TABLE : ℕ
+BLOCK_TABLE = 49152
+
+abbrev pub PLACE_TABLE : ℕ
+PLACE_TABLE = 32768

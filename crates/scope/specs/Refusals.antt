@@ -5,7 +5,11 @@ use lib.Dec.{ltb}
 use Rattle.scope.specs.declared.Finding.{Finding}
 use Rattle.scope.specs.declared.Finding.the-variants.{Clear, At}
 
--- 2 file header, 3 section headers, 4 section names, 5 symbol table, 6 relocation tables
+-- 1 sizes and settings, 2 file header, 3 section headers, 4 section names, 5 symbol table, 6 relocation tables, 7 block file, 8 and 9 the places of
+-- blocks, 21 room in the output
+abbrev pub LIMITS : ℕ
+LIMITS = 1
+
 abbrev pub FILE_HEADER : ℕ
 FILE_HEADER = 2
 
@@ -20,6 +24,18 @@ SYMBOL_TABLE = 5
 
 abbrev pub RELOCATION_TABLE : ℕ
 RELOCATION_TABLE = 6
+
+abbrev pub BLOCK_FILE : ℕ
+BLOCK_FILE = 7
+
+abbrev pub BLOCK_PLACE : ℕ
+BLOCK_PLACE = 8
+
+abbrev pub BLOCK_ALIGNMENT : ℕ
+BLOCK_ALIGNMENT = 9
+
+abbrev pub OUTPUT_ROOM : ℕ
+OUTPUT_ROOM = 21
 
 abbrev pub pickFinding : Bool → Finding → Finding → Finding
 pickFinding true a b = a

@@ -1,0 +1,79 @@
+-- Start labels, `.text`, the lines of the block and its end labels, one behind the other. Assumes nothing.
+use lib.Dec.{lit≤}
+use Rattle.scope.specs.Text.{text}
+use Rattle.blocks.proofs.Blocks.{counted-group}
+use Rattle.draft_lines.proofs.Written.{written-then, written-as}
+use Rattle.draft_lines.proofs.Lines.{group-lines-short}
+use Rattle.draft_text.proofs.Text.{body-read, length-dot-text}
+use native.Mathlib.Omega.{arith}
+use mathlib.Core.Path.{_∙_}
+use denote.Ref.{now}
+use borrow.Author.Needs.{needs}
+use Rattle.draft_text.proofs.append_body.Statement.{statement}
+use Rattle.draft_text.proofs.append_body.Tie as tie
+
+group-start-requires : tie.Need-group-start-requires
+group-start-requires c κs = search needs
+
+slice-aggregate-append-labels : tie.Need-slice-aggregate-append-labels
+slice-aggregate-append-labels c = search needs
+
+append-labels-requires : tie.Need-append-labels-requires
+append-labels-requires c κs =
+    let q = c .before .before .before .before .before .before .pre in
+    (q .0, q .1, omega (arith, q .2), lit≤ tt)
+
+slice-aggregate-append-line : tie.Need-slice-aggregate-append-line
+slice-aggregate-append-line c = search needs
+
+append-line-requires : tie.Need-append-line-requires
+append-line-requires c κs =
+    let q = c .before .before .before .before .before .before .before .before .before .before .before .pre in
+    omega (arith, c .before .before .before .before .append-labels .ensures .1, q .2)
+
+append-group-requires : tie.Need-append-group-requires
+append-group-requires c κs =
+    let a = c .before .before .before .before .before .before .before .before .before .before .before .before .before .before .before .args in
+    let q = c .before .before .before .before .before .before .before .before .before .before .before .before .before .before .before .pre in
+    let g = counted-group (now (a .file)) (a .i) 8 (q .1) (lit≤ tt) in
+    (omega (arith, length-dot-text, c .before .before .before .append-line .ensures .end, c .before .before .before .before .before .before .before .before .append-labels .ensures .1, q .2, q .0 .small), lit≤ tt, omega (arith, g, c .before .before .before .before .before .before .before .before .before .before .before .group-start .ensures))
+
+slice-aggregate-append-labels-2 : tie.Need-slice-aggregate-append-labels-2
+slice-aggregate-append-labels-2 c = search needs
+
+append-labels-requires-2 : tie.Need-append-labels-requires-2
+append-labels-requires-2 c κs =
+    let a = c .before .before .before .before .before .before .before .before .before .before .before .before .before .before .before .before .before .before .before .before .args in
+    let q = c .before .before .before .before .before .before .before .before .before .before .before .before .before .before .before .before .before .before .before .before .pre in
+    let s = group-lines-short (now (a .file)) 8 (c .before .before .before .before .before .before .before .before .before .before .before .before .before .before .before .before .group-start .result) (lit≤ tt) (omega (arith, counted-group (now (a .file)) (a .i) 8 (q .1) (lit≤ tt), c .before .before .before .before .before .before .before .before .before .before .before .before .before .before .before .before .group-start .ensures)) in
+    (q .0, q .1, omega (arith, length-dot-text, c .before .before .before .before .append-group .ensures .end, s, c .before .before .before .before .before .before .before .before .append-line .ensures .end, c .before .before .before .before .before .before .before .before .before .before .before .before .before .append-labels .ensures .1, q .2, q .0 .small), lit≤ tt)
+
+same-length : tie.Need-same-length
+same-length c = c .before .before .append-labels2 .ensures .0 .long ∙ c .before .before .before .before .before .before .before .append-group .ensures .long ∙ c .before .before .before .before .before .before .before .before .before .before .before .append-line .ensures .long ∙ c .before .before .before .before .before .before .before .before .before .before .before .before .before .before .before .before .append-labels .ensures .0 .long
+
+returns : tie.Need-returns
+unfolding text
+returns c =
+    let a = c .before .before .before .before .before .before .before .before .before .before .before .before .before .before .before .before .before .before .before .before .before .before .before .args in
+    let q = c .before .before .before .before .before .before .before .before .before .before .before .before .before .before .before .before .before .before .before .before .before .before .before .pre in
+    let l = c .before .before .before .before .before .before .before .before .before .before .before .before .before .before .before .before .append-labels .ensures in
+    let t = c .before .before .before .before .before .before .before .before .before .before .before .append-line .ensures in
+    let g = c .before .before .before .before .before .before .before .append-group .ensures in
+    let e = c .before .before .append-labels2 .ensures in
+    let s = group-lines-short (now (a .file)) 8 (c .before .before .before .before .before .before .before .before .before .before .before .before .before .before .before .before .before .before .before .group-start .result) (lit≤ tt) (omega (arith, counted-group (now (a .file)) (a .i) 8 (q .1) (lit≤ tt), c .before .before .before .before .before .before .before .before .before .before .before .before .before .before .before .before .before .before .before .group-start .ensures)) in
+    (written-as _ _ _ _ _ _ (body-read (now (a .file)) (a .i) _ (c .before .before .before .before .before .before .before .before .before .before .before .before .before .before .before .before .before .before .before .group-start .ensures)) (written-then _ _ _ _ _ _ _ _ (written-then _ _ _ _ _ _ _ _ (written-then _ _ _ _ _ _ _ _ (l .0) t) g) (e .0)), omega (arith, length-dot-text, l .1, t .end, g .end, e .1, s, q .0 .small))
+
+pub append-body-spec : {M : Type 1} → statement M
+append-body-spec =
+    tie.close
+    (tie.spec
+    group-start-requires
+    slice-aggregate-append-labels
+    append-labels-requires
+    slice-aggregate-append-line
+    append-line-requires
+    append-group-requires
+    slice-aggregate-append-labels-2
+    append-labels-requires-2
+    same-length
+    returns)

@@ -1,0 +1,74 @@
+-- The labels of the first c lines of the block are written, each at most 2 ^ 21 bytes. Assumes nothing.
+use Rattle.blocks.proofs.Blocks.{count-high}
+use Rattle.draft_lines.specs.Written.{Written}
+use Rattle.draft_lines.proofs.Written.{written-none, written-then, written-as}
+use Rattle.draft_text.proofs.Text.{labelsSo, labels-zero, labels-next, labels-all}
+use borrow.Author.Needs.{needs}
+use native.Mathlib.Omega.{arith}
+use Prim.Native.Nat.{_+_, _-_, _*_, _≤_}
+use mathlib.Core.Path.{_≡_, sym, ap, _∙_}
+use denote.Ref.{now}
+use Rattle.draft_text.proofs.append_labels.Statement.{statement}
+use Rattle.draft_text.proofs.append_labels.Tie as tie
+
+abbrev Inv-loop : tie.InvT-loop
+Inv-loop out₀ at file table suffix i next₀ c₀ out next c = (c ≤ 4) × Written out₀ at (labelsSo file suffix i c) next out × (next ≤ at + c * 2097152)
+
+abbrev μ-loop : tie.MeasureT-loop
+μ-loop out₀ at file table suffix i next₀ c₀ out next c = 4 - c
+
+loop-holds : tie.Need-loop-holds Inv-loop μ-loop
+loop-holds c =
+    let a = c .before .before .before .before .args in
+    (omega arith, written-as _ _ _ _ _ _ (sym (labels-zero (now (a .file)) (now (a .suffix)) (a .i))) (written-none _ _), omega arith)
+
+mul-append-label-text : tie.Need-mul-append-label-text Inv-loop μ-loop
+mul-append-label-text c = omega (arith, count-high (now (c .before .before .before .before .before .before .before .args .file)))
+
+add-append-label-text : tie.Need-add-append-label-text Inv-loop μ-loop
+add-append-label-text c = omega (arith, count-high (now (c .before .before .before .before .before .before .before .args .file)))
+
+append-label-text-requires : tie.Need-append-label-text-requires Inv-loop μ-loop
+append-label-text-requires c κs =
+    let l = c .before .before .loop in
+    let q = c .before .before .before .before .before .before .before .pre in
+    (q .0, omega (arith, q .1), omega (arith, l .inv .2), q .3)
+
+add-c : tie.Need-add-c Inv-loop μ-loop
+add-c c = search needs
+
+loop-less : tie.Need-loop-less Inv-loop μ-loop
+loop-less c = omega arith
+
+loop-again : tie.Need-loop-again Inv-loop μ-loop
+loop-again c =
+    let a = c .before .before .before .before .before .before .before .before .before .before .args in
+    let l = c .before .before .before .before .before .loop in
+    let w = c .before .before .append-label-text .ensures in
+    (omega arith, written-as _ _ _ _ _ _ (labels-next (now (a .file)) (now (a .suffix)) (a .i) (l .c)) (written-then _ _ _ _ _ _ _ _ (l .inv .1) (w .0)), omega (arith, l .inv .2, w .1))
+
+same-length : tie.Need-same-length Inv-loop μ-loop
+same-length c = c .before .loop .inv .1 .long
+
+returns : tie.Need-returns Inv-loop μ-loop
+returns c =
+    let a = c .before .before .before .before .before .before .args in
+    let l = c .before .loop in
+    let e : l .c ≡ 4 = omega arith in
+    (written-as _ _ _ _ _ _ (ap (labelsSo (now (a .file)) (now (a .suffix)) (a .i)) e ∙ labels-all (now (a .file)) (now (a .suffix)) (a .i)) (l .inv .1), omega (arith, l .inv .2))
+
+pub append-labels-spec : {M : Type 1} → statement M
+append-labels-spec =
+    tie.close
+    (tie.spec
+    Inv-loop
+    μ-loop
+    loop-holds
+    mul-append-label-text
+    add-append-label-text
+    append-label-text-requires
+    add-c
+    loop-less
+    loop-again
+    same-length
+    returns)

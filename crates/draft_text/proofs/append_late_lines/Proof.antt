@@ -1,0 +1,116 @@
+-- `draft_text::append_late_lines` meets its contract: what is written so far are the late lines of the blocks before block i, and each block moves the
+-- end by at most the length of the block file. Assumes nothing.
+use Rattle.lists.specs.Ranges.{gather}
+use Rattle.blocks.specs.Blocks.{blockCount}
+use Rattle.blocks.proofs.Blocks.{count-high}
+use Rattle.places.specs.Spans.{live}
+use Rattle.draft_lines.specs.Written.{Written}
+use Rattle.draft_text.specs.Draft.{lateText}
+use Rattle.draft_text.proofs.Late.{late-start, late-turn, late-pass, late-done, late-from, late-grows}
+use borrow.Author.Needs.{needs}
+use native.Mathlib.Omega.{arith}
+use Prim.Native.Nat.{_+_, _-_, _*_, _≤_, _<_}
+use mathlib.Core.Path.{_≡_, sym, _∙_}
+use denote.Ref.{now}
+use Rattle.draft_text.proofs.append_late_lines.Statement.{statement}
+use Rattle.draft_text.proofs.append_late_lines.Tie as tie
+
+abbrev Inv-loop : tie.InvT-loop
+Inv-loop out₀ at order compiled file table places count next₀ i₀ out next i =
+    (i ≤ count) × (next ≤ at + i * 1048576) × Written out₀ at (gather (live order compiled file) (lateText file) i) next out
+
+abbrev μ-loop : tie.MeasureT-loop
+μ-loop out₀ at order compiled file table places count next₀ i₀ out next i = count - i
+
+loop-holds : tie.Need-loop-holds Inv-loop μ-loop
+loop-holds c =
+    let a = c .before .before .before .before .before .args in
+    (omega arith, omega arith, late-start (a .order) (now (a .compiled)) (now (a .file)) (now (a .out)) (a .at))
+
+is-live-requires : tie.Need-is-live-requires Inv-loop μ-loop
+is-live-requires c κs = search needs
+
+group-start-requires : tie.Need-group-start-requires Inv-loop μ-loop
+group-start-requires c κs = search needs
+
+append-group-requires : tie.Need-append-group-requires Inv-loop μ-loop
+append-group-requires c κs =
+    let a = c .before .before .before .before .before .before .before .before .before .before .before .args in
+    let p = c .before .before .before .before .before .before .before .before .before .before .before .pre in
+    let l = c .before .before .before .before .before .loop in
+    let u : l .i < blockCount (now (a .file)) = omega (arith, p .1, c .before .before .before .before .loop-test .taken) in
+    let n : blockCount (now (a .file)) ≤ 1024 = count-high (now (a .file)) in
+    (omega (arith, p .0 .parsed .small, p .2, l .inv .1, u, n), omega arith, late-from (now (a .file)) (l .i) (c .before .group-start .result) u (c .before .group-start .ensures))
+
+add-i : tie.Need-add-i Inv-loop μ-loop
+add-i c = search needs
+
+loop-less : tie.Need-loop-less Inv-loop μ-loop
+loop-less c = search needs
+
+loop-again : tie.Need-loop-again Inv-loop μ-loop
+loop-again c =
+    let a = c .before .before .before .before .before .before .before .before .before .before .before .before .before .before .args in
+    let p = c .before .before .before .before .before .before .before .before .before .before .before .before .before .before .pre in
+    let l = c .before .before .before .before .before .before .before .before .loop in
+    let s = c .before .before .before .before .group-start in
+    let g = c .before .before .append-group in
+    let u : l .i < blockCount (now (a .file)) = omega (arith, p .1, c .before .before .before .before .before .before .before .loop-test .taken) in
+    let t = sym (c .before .before .before .before .before .before .is-live .ensures) ∙ c .before .before .before .before .before .if1 .taken in
+    let q : g .result ≤ l .next + 1048576 = late-grows (now (a .file)) (l .i) (s .result) (l .next) (l .out) (g .result) (g .last .0) (p .0 .parsed .small) u (s .ensures) (g .ensures) in
+    (
+      omega (arith, p .1, u),
+      omega (arith, q, l .inv .1),
+      late-turn (a .order) (now (a .compiled)) (now (a .file)) (now (a .out)) (a .at) (l .i) (l .next) (l .out) (l .inv .2) (s .result) (g .result) (g .last .0) t (s .ensures) (g .ensures),
+    )
+
+add-i-2 : tie.Need-add-i-2 Inv-loop μ-loop
+add-i-2 c = search needs
+
+loop-less-2 : tie.Need-loop-less-2 Inv-loop μ-loop
+loop-less-2 c = search needs
+
+loop-again-2 : tie.Need-loop-again-2 Inv-loop μ-loop
+loop-again-2 c =
+    let a = c .before .before .before .before .before .before .before .before .before .args in
+    let l = c .before .before .before .loop in
+    let f = sym (c .before .is-live .ensures) ∙ c .if1 .left in
+    (
+      omega arith,
+      omega arith,
+      late-pass (a .order) (now (a .compiled)) (now (a .file)) (now (a .out)) (a .at) (l .i) (l .next) (l .out) (l .inv .2) f,
+    )
+
+same-length : tie.Need-same-length Inv-loop μ-loop
+same-length c = search needs
+
+returns : tie.Need-returns Inv-loop μ-loop
+returns c =
+    let a = c .before .before .before .before .before .before .before .args in
+    let p = c .before .before .before .before .before .before .before .pre in
+    let l = c .before .loop in
+    let e : l .i ≡ blockCount (now (a .file)) = omega (arith, p .1, l .inv .0, c .loop-test .left) in
+    let n : blockCount (now (a .file)) ≤ 1024 = count-high (now (a .file)) in
+    (
+      late-done (a .order) (now (a .compiled)) (now (a .file)) (now (a .out)) (a .at) (l .i) (l .next) (l .out) (l .inv .2) e,
+      omega (arith, e, n, l .inv .1),
+    )
+
+pub append-late-lines-spec : {M : Type 1} → statement M
+append-late-lines-spec =
+    tie.close
+    (tie.spec
+    Inv-loop
+    μ-loop
+    loop-holds
+    is-live-requires
+    group-start-requires
+    append-group-requires
+    add-i
+    loop-less
+    loop-again
+    add-i-2
+    loop-less-2
+    loop-again-2
+    same-length
+    returns)
