@@ -13,7 +13,9 @@ pub struct Outcome {
 }
 
 pub const NONE: u32 = 0;
+
 pub const COMPILED: u32 = 1;
+
 pub const ASSEMBLED: u32 = 2;
 
 // A refusal.

@@ -70,9 +70,9 @@ module _ (o : ByteOrder) (C B : List ℕ) (j : ℕ) where
   unfolding lineText
   line-off e = both-off (eqb (spanCode j) 4) _ (padText o C B j) _ e
     where
-    both-off : (a b : Bool) (s t : List ℕ) → b ≡ false → s ++ [] ≡ s ++ pickList (a && b) t []
-    both-off true b s t e = rw e
-    both-off false b s t e = refl
+      both-off : (a b : Bool) (s t : List ℕ) → b ≡ false → s ++ [] ≡ s ++ pickList (a && b) t []
+      both-off true b s t e = rw e
+      both-off false b s t e = refl
 
   pub line-body : spanCode j ≡ 4 → live o C B (spanBlock j) ≡ true → padText o C B j ++ bodyText B (spanBlock j) ≡ lineText o C B j
   unfolding lineText

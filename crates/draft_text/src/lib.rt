@@ -12,7 +12,14 @@ ghost use Rattle.draft_text.specs.Job.{Job};
 use fields::ByteOrder;
 
 // Appends the start or end label of line j, if it has one.
-fn append_label_text(out: &mut [u8], at: u64, file: &[u8], table: &[u8], suffix: &[u8], j: usize) -> u64
+fn append_label_text(
+    out: &mut [u8],
+    at: u64,
+    file: &[u8],
+    table: &[u8],
+    suffix: &[u8],
+    j: usize,
+) -> u64
     requires { ⌜ Parsed (now file) (now table) × (j < 4 * blockCount (now file)) × (at < 4611686018427387904) × (length (now suffix) ≤ 16) ⌝ }
     ensures { λ r. ⌜ Written (now (out .entry)) at (labelText (now (file .entry)) (now (suffix .entry)) j) r (now (out .exit)) × (r ≤ at + 2097152) ⌝ }
 {
@@ -112,7 +119,15 @@ fn append_line_text(
 }
 
 // The end of the last span in line j's section, with line j.
-fn end_after(order: ByteOrder, compiled: &[u8], file: &[u8], table: &[u8], places: &[u8], j: usize, end: u64) -> u64
+fn end_after(
+    order: ByteOrder,
+    compiled: &[u8],
+    file: &[u8],
+    table: &[u8],
+    places: &[u8],
+    j: usize,
+    end: u64,
+) -> u64
     requires { ⌜ Job order (now compiled) (now file) (now table) (now places) × (j < 4 * blockCount (now file)) × (end ≡ endAt order (now compiled) (now file) j (spanCode j)) ⌝ }
     ensures { λ r. ⌜ r ≡ endAt order (now (compiled .entry)) (now (file .entry)) (j + 1) (spanCode j) ⌝ }
 {
@@ -152,7 +167,14 @@ fn append_lines(
 }
 
 // Whether block i stays on and has a late line.
-fn has_late(order: ByteOrder, compiled: &[u8], file: &[u8], table: &[u8], places: &[u8], i: usize) -> bool
+fn has_late(
+    order: ByteOrder,
+    compiled: &[u8],
+    file: &[u8],
+    table: &[u8],
+    places: &[u8],
+    i: usize,
+) -> bool
     requires { ⌜ Job order (now compiled) (now file) (now table) (now places) × (i < blockCount (now file)) ⌝ }
     ensures { λ r. ⌜ r ≡ lateAt order (now (compiled .entry)) (now (file .entry)) i ⌝ }
 {
@@ -192,7 +214,14 @@ fn append_late_lines(
 }
 
 // Whether some block that stays on has a late line.
-fn is_late(order: ByteOrder, compiled: &[u8], file: &[u8], table: &[u8], places: &[u8], count: usize) -> bool
+fn is_late(
+    order: ByteOrder,
+    compiled: &[u8],
+    file: &[u8],
+    table: &[u8],
+    places: &[u8],
+    count: usize,
+) -> bool
     requires { ⌜ Job order (now compiled) (now file) (now table) (now places) × (count ≡ blockCount (now file)) ⌝ }
     ensures { λ r. ⌜ r ≡ hasLate order (now (compiled .entry)) (now (file .entry)) ⌝ }
 {

@@ -60,6 +60,7 @@ pub const LATE_RODATA: u32 = 5;
 pub const REGINFO: u32 = 6;
 
 pub const LIMITS: u32 = 1;
+
 pub const FILE_HEADER: u32 = 2;
 
 pub const SECTION_HEADER: u32 = 3;
@@ -69,13 +70,18 @@ pub const SECTION_NAME: u32 = 4;
 pub const SYMBOL_TABLE: u32 = 5;
 
 pub const RELOCATION_TABLE: u32 = 6;
+
 pub const BLOCK_FILE: u32 = 7;
+
 pub const BLOCK_PLACE: u32 = 8;
+
 pub const BLOCK_ALIGNMENT: u32 = 9;
+
 pub const OUTPUT_ROOM: u32 = 21;
 
 // The least lengths of the working buffers (docs/SIZES.md).
 pub const BLOCK_TABLE: usize = 49152;
+
 pub const PLACE_TABLE: usize = 32768;
 
 // What the test of a refusal number finds: nothing at fault, or the place that is reported.

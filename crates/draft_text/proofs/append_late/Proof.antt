@@ -41,8 +41,7 @@ append-late-lines-requires c κs =
     let z = c .before .before .before in
     let y = z .before .before .before .before .before in
     let x = y .before .before .before .before .before in
-    let p = x .before .before .before .before .before .before .before .before .before .before .pre in
-    (
+    let p = x .before .before .before .before .before .before .before .before .before .before .pre in (
       p .0,
       p .1,
       omega (arith, p .2, line-ends _ _ _ _ _ (x .append-line .ensures), line-ends _ _ _ _ _ (y .append-line2 .ensures), line-ends _ _ _ _ _ (z .append-line3 .ensures)),

@@ -57,8 +57,7 @@ loop-again c =
     let g = c .before .before .append-group in
     let u : l .i < blockCount (now (a .file)) = omega (arith, p .1, c .before .before .before .before .before .before .before .loop-test .taken) in
     let t = sym (c .before .before .before .before .before .before .is-live .ensures) ∙ c .before .before .before .before .before .if1 .taken in
-    let q : g .result ≤ l .next + 1048576 = late-grows (now (a .file)) (l .i) (s .result) (l .next) (l .out) (g .result) (g .last .0) (p .0 .parsed .small) u (s .ensures) (g .ensures) in
-    (
+    let q : g .result ≤ l .next + 1048576 = late-grows (now (a .file)) (l .i) (s .result) (l .next) (l .out) (g .result) (g .last .0) (p .0 .parsed .small) u (s .ensures) (g .ensures) in (
       omega (arith, p .1, u),
       omega (arith, q, l .inv .1),
       late-turn (a .order) (now (a .compiled)) (now (a .file)) (now (a .out)) (a .at) (l .i) (l .next) (l .out) (l .inv .2) (s .result) (g .result) (g .last .0) t (s .ensures) (g .ensures),
@@ -74,8 +73,7 @@ loop-again-2 : tie.Need-loop-again-2 Inv-loop μ-loop
 loop-again-2 c =
     let a = c .before .before .before .before .before .before .before .before .before .args in
     let l = c .before .before .before .loop in
-    let f = sym (c .before .is-live .ensures) ∙ c .if1 .left in
-    (
+    let f = sym (c .before .is-live .ensures) ∙ c .if1 .left in (
       omega arith,
       omega arith,
       late-pass (a .order) (now (a .compiled)) (now (a .file)) (now (a .out)) (a .at) (l .i) (l .next) (l .out) (l .inv .2) f,
@@ -90,8 +88,7 @@ returns c =
     let p = c .before .before .before .before .before .before .before .pre in
     let l = c .before .loop in
     let e : l .i ≡ blockCount (now (a .file)) = omega (arith, p .1, l .inv .0, c .loop-test .left) in
-    let n : blockCount (now (a .file)) ≤ 1024 = count-high (now (a .file)) in
-    (
+    let n : blockCount (now (a .file)) ≤ 1024 = count-high (now (a .file)) in (
       late-done (a .order) (now (a .compiled)) (now (a .file)) (now (a .out)) (a .at) (l .i) (l .next) (l .out) (l .inv .2) e,
       omega (arith, e, n, l .inv .1),
     )

@@ -1,0 +1,71 @@
+-- What the steps of a call leave behind, from one step to the call itself. Assumes nothing.
+use mathlib.Core.Path.{_≡_, refl, ap, _∙_}
+use mathlib.Core.List.{List}
+use Prim.Native.Nat.{ℕ, _+_, _≤_, _<_}
+use native.Mathlib.Omega.{arith}
+use native.Mathlib.Nat.{zero-add}
+use lib.ListN.{length, take, drop}
+use lib.Seq.{take-at}
+use lib.Dec.{leb}
+use borrow.Author.Tests.{le-leb, lt-leb}
+use Rattle.lists.specs.Windows.{spliced}
+use Rattle.buffers.specs.Buffers.{zeros, zeroedFrom}
+use Rattle.answers.specs.declared.Outcome.{Outcome}
+use Rattle.answers.specs.Answers.{Answer, accepted, refused, lengthOutcome, outcomeOf, resultOf}
+use Rattle.answers.proofs.Answers.{outcome-length, output-zeroed}
+use Rattle.draft_lines.specs.Written.{Written}
+use Rattle.splicer.specs.Answered.{Answered, Drafted}
+use Rattle.splicer.specs.Verdict.{pickAnswer, roomFor}
+
+pub answered-as : (a b : Answer) (r : Outcome) (x y : List ℕ) → a ≡ b → Answered a r x y → Answered b r x y
+answered-as a b r x y e p = rw e at p
+
+-- a refusal leaves an output of the same length
+pub answered-refused : (n o p : ℕ) (r : Outcome) (x y : List ℕ) → r ≡ outcomeOf (refused n o p) → length y ≡ length x → Answered (refused n o p) r x y
+unfolding resultOf
+answered-refused n o p r x y e l = record { outcome = e; long = l; fits = omega arith; result = refl }
+
+-- a result stands at the front of the output
+accepted-whole : (s x y : List ℕ) (r : Outcome) → r ≡ lengthOutcome (length s) → length y ≡ length x → length s ≤ length x → take (length s) y ≡ s → Answered (accepted s) r x y
+unfolding resultOf outcomeOf
+accepted-whole s x y r e l f t = record { outcome = e; long = l; fits = f; result = t }
+
+-- ---- refusal 21
+
+module _ (text before after : List ℕ) (n : ℕ) (r : Outcome) (w : Written before 0 text n after) where
+  long : n ≡ length text
+  long = w .end ∙ zero-add (length text)
+
+  front : length text ≤ length before → take (length text) after ≡ text
+  unfolding spliced
+  front h = rw (w .bytes (rw (zero-add (length text)) h)) (take-at text (drop (0 + length text) before) (length text) refl)
+
+  pub room-there : n ≤ length before → r ≡ lengthOutcome n → Answered (roomFor text (length before)) r before after
+  unfolding roomFor
+  room-there h e =
+      let k : length text ≤ length before = omega (arith, long) in
+      answered-as (accepted text) (pickAnswer (leb (length text) (length before)) (accepted text) (refused 21 0 (length text))) r before after (rw (le-leb _ _ k)) (whole k)
+    where
+      whole : length text ≤ length before → Answered (accepted text) r before after
+      whole k = accepted-whole text before after r (e ∙ ap lengthOutcome long) (w .long) k (front k)
+
+  pub room-short : length before < n → r ≡ outcomeOf (refused 21 0 n) → Answered (roomFor text (length before)) r before after
+  unfolding roomFor
+  room-short h e =
+      let k : length before < length text = omega (arith, long) in
+      answered-as (refused 21 0 n) (pickAnswer (leb (length text) (length before)) (accepted text) (refused 21 0 (length text))) r before after (rw (lt-leb _ _ k, ← long)) (answered-refused 21 0 n r before after e (w .long))
+
+-- ---- the call: what was answered, with the rest of the output and the working buffers zeroed
+
+module _ (a : Answer) (r : Outcome) (out mid outAfter table tableAfter places placesAfter : List ℕ) (d : Answered a r out mid) where
+  -- the length that crosses the boundary lies in the output
+  pub length-inside : r .length ≤ length mid
+  length-inside = omega (arith, d .fits, d .long, ap (λ (x : Outcome). x .length) (d .outcome), outcome-length a)
+
+  pub drafted : outAfter ≡ zeroedFrom mid (r .length) → tableAfter ≡ zeros (length table) → placesAfter ≡ zeros (length places) → Drafted a r out outAfter table tableAfter places placesAfter
+  drafted o t p = record {
+    outcome = d .outcome;
+    output = o ∙ output-zeroed a mid (length out) (r .length) (ap (λ (x : Outcome). x .length) (d .outcome) ∙ outcome-length a) (d .long) (d .result);
+    tableZero = t;
+    placesZero = p;
+  }

@@ -1,0 +1,48 @@
+-- The answer is as all the steps left it; then the output past the result and the working buffers are zeroed. Assumes nothing.
+use Rattle.buffers.specs.Buffers.{zeros}
+use Rattle.splicer.proofs.Answered.{length-inside, drafted}
+use Prim.Native.Nat.{zero}
+use mathlib.Core.Path.{ap, _∙_}
+use mathlib.Core.List.{[]}
+use borrow.Author.Needs.{needs}
+use Rattle.splicer.proofs.draft.Statement.{statement}
+use Rattle.splicer.proofs.draft.Tie as tie
+
+draft-all-requires : tie.Need-draft-all-requires
+draft-all-requires c κs = search needs
+
+zero-from-requires : tie.Need-zero-from-requires
+zero-from-requires c κs = length-inside _ _ _ _ [] [] [] [] [] (c .before .before .before .before .before .before .before .draft-all .ensures)
+
+zero-requires : tie.Need-zero-requires
+zero-requires c κs = search needs
+
+zero-requires-2 : tie.Need-zero-requires-2
+zero-requires-2 c κs = search needs
+
+same-length : tie.Need-same-length
+same-length c = search needs
+
+same-length-2 : tie.Need-same-length-2
+same-length-2 c = search needs
+
+same-length-3 : tie.Need-same-length-3
+same-length-3 c = search needs
+
+returns : tie.Need-returns
+returns c =
+    let k = c .before .before .before .before .before .before .before .before .before .before .before .before .before .before .before .before .before .before .draft-all .kept in
+    drafted _ _ _ _ _ _ _ _ _ (c .before .before .before .before .before .before .before .before .before .before .before .before .before .before .before .before .before .before .draft-all .ensures) (c .before .before .before .before .before .before .before .before .before .before .zero-from .ensures) (c .before .before .before .before .before .before .zero .ensures ∙ ap zeros (k .1 .1 .1 .1 .0)) (c .before .before .zero2 .ensures ∙ ap zeros (k .1 .1 .1 .1 .1 .0))
+
+pub draft-spec : {M : Type 1} → statement M
+draft-spec =
+    tie.close
+    (tie.spec
+    draft-all-requires
+    zero-from-requires
+    zero-requires
+    zero-requires-2
+    same-length
+    same-length-2
+    same-length-3
+    returns)

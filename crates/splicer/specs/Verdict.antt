@@ -1,0 +1,61 @@
+-- The draft, whole (document 01, "What a call gives back" and "Order"): 1; C by 2 to 6; 7; blocks by 8 and 9; then 21.
+use Prim.Native.Nat.{ℕ}
+use mathlib.Core.Bool.{Bool, true, false, _||_}
+use mathlib.Core.List.{List}
+use lib.ListN.{length}
+use lib.Dec.{ltb, leb}
+use Rattle.fields.specs.declared.ByteOrder.{ByteOrder}
+use Rattle.scope.specs.declared.Finding.{Finding}
+use Rattle.scope.specs.declared.Finding.the-variants.{Clear, At}
+use Rattle.scope.specs.Limits.{FILE_LIMIT, BLOCK_TABLE, PLACE_TABLE}
+use Rattle.scope.specs.Refusals.{LIMITS, BLOCK_FILE, BLOCK_PLACE, BLOCK_ALIGNMENT, OUTPUT_ROOM}
+use Rattle.elf.specs.Readers.{orderOf}
+use Rattle.object.specs.declared.Checked.{Checked}
+use Rattle.object.specs.declared.Checked.the-variants.{Accepted, Refused}
+use Rattle.object.specs.Object.{checkOf}
+use Rattle.blocks.specs.Blocks.{blockFault}
+use Rattle.places.specs.declared.Placing.{Placing}
+use Rattle.places.specs.declared.Placing.the-variants.{Placed, Misplaced, Misaligned}
+use Rattle.places.specs.Walk.{placing}
+use Rattle.answers.specs.Answers.{Answer, accepted, refused, NONE, COMPILED}
+use Rattle.draft_text.specs.Draft.{draftText}
+
+abbrev pub pickAnswer : Bool → Answer → Answer → Answer
+pickAnswer true a b = a
+pickAnswer false a b = b
+
+-- refusal 1: C, the prelude or the block file over the limit, or a working buffer below its constant
+unfoldable pub overLimits : ℕ → ℕ → ℕ → ℕ → ℕ → Bool
+overLimits compiled prelude blocks table places =
+    ltb FILE_LIMIT compiled || (ltb FILE_LIMIT prelude || (ltb FILE_LIMIT blocks || (ltb table BLOCK_TABLE || ltb places PLACE_TABLE)))
+
+-- refusal 21: the exact length that is needed
+unfoldable pub roomFor : List ℕ → ℕ → Answer
+roomFor text room = pickAnswer (leb (length text) room) (accepted text) (refused OUTPUT_ROOM NONE (length text))
+
+-- refusals 8 and 9
+unfoldable pub ifPlaced : Placing → Answer → Answer
+ifPlaced Placed rest = rest
+ifPlaced (Misplaced block) rest = refused BLOCK_PLACE COMPILED block
+ifPlaced (Misaligned block) rest = refused BLOCK_ALIGNMENT COMPILED block
+
+-- refusal 7
+unfoldable pub ifClear : Finding → Answer → Answer
+ifClear Clear rest = rest
+ifClear (At line) rest = refused BLOCK_FILE NONE line
+
+-- refusals 2 to 6 of C
+unfoldable pub ifSound : Checked → Answer → Answer
+ifSound (Accepted view) rest = rest
+ifSound (Refused number place) rest = refused number COMPILED place
+
+module _ (C prelude B : List ℕ) where
+  -- the text, where there is room for it
+  unfoldable pub draftFrom : ByteOrder → ℕ → Answer
+  draftFrom o room = ifPlaced (placing o C B) (roomFor (draftText o C B prelude) room)
+
+  -- the whole call: room is the output's length, the last two those of the working buffers
+  unfoldable pub draftVerdict : ℕ → ℕ → ℕ → Answer
+  draftVerdict room table places =
+      pickAnswer (overLimits (length C) (length prelude) (length B) table places) (refused LIMITS NONE 0)
+      (ifSound (checkOf C) (ifClear (blockFault B) (draftFrom (orderOf C) room)))
