@@ -3,7 +3,8 @@
 
   rt staticlib splicer && cc -O2 tools/draft_time.c -Ltarget/staticlib -lsplicer -o target/draft_time
   (cd oracle && cargo build --release)
-  tools/draft_speed.py CASE..
+  mkdir -p target/speed && tools/draft_jobs.py target/speed
+  tools/draft_speed.py target/speed/*.case
 
 A case is three big-endian lengths and the bytes (README). The proved draft's time is that of the call, its buffers zeroed. The Rust's is that of a request to
 `oracle serve` and its answer: it reads the object's file, makes the draft, and writes it to a file, and the pipe is in it, so it is an upper bound.
