@@ -161,6 +161,11 @@ def object_jobs():
         yield real[name], b'.set noat', block(b'r', text=b'pick 4 0', data=b'shared 4 0', asm=[b'jr $ra']) + block(text=b'first 4 0', asm=[b'x'], late=[b'.word 3']), None
     for label, b in list(check_objects.damaged(real['o32']))[::6]:
         yield b, b'', block(text=b'pick 4 0', asm=[b'jr $ra']), None
+    o32 = real['o32']
+    for index in (1, 255):                                              # 4: e_shstrndx names another section, or none
+        yield o32[:50] + struct.pack('>H', index) + o32[52:], b'', block(text=b'pick 4 0', asm=[b'jr $ra']), None
+    names = o32.index(b'\0.symtab\0')                                   # 4: a section name with a byte over 127
+    yield o32[:names + 2] + b'\x80' + o32[names + 3:], b'', block(text=b'pick 4 0', asm=[b'jr $ra']), None
 
 
 def random_jobs(count, seed):
