@@ -2,8 +2,8 @@
 //! bytes. The module is taken in from where build.rs found it; the items that it asks of its
 //! crate's root stand here, written anew from their meaning there.
 
-// postprocess.rs takes `Command` from `std`; this one can do without a shell.
-extern crate std_with_shell as std;
+// postprocess.rs takes `Command` and files from `std`; this one can do without a shell and disk.
+extern crate std_standin as std;
 
 mod blocks;
 
@@ -16,7 +16,7 @@ use std::{
     fmt, fs,
     os::unix::ffi::OsStrExt,
     panic::{AssertUnwindSafe, catch_unwind},
-    path::{Component, Path},
+    path::{Component, Path, PathBuf},
     process::set_assembler,
 };
 
@@ -49,24 +49,84 @@ pub enum Answer {
     Limit(String),
 }
 
-/// Who plays the assembler.
+/// Who plays the assembler, and where the files are.
 pub enum Shell {
-    /// `sh` and `mv`, as postprocess.rs means it.
+    /// `sh` and `mv` on files of a temporary folder, as postprocess.rs means it. The current
+    /// folder of the process changes, so only one thread may run such jobs.
     Real,
-    /// A function of ours, many times faster.
+    /// A function of ours and files in memory, many times faster.
     Quick,
 }
 
-/// Errors of the machine: the limit of main.rs on the size of a file, a full disk, and an
-/// assembler that failed against its task.
+/// Errors of the machine: the limit on the size of a file, a full disk, and an assembler that
+/// failed against its task.
 const NO_VERDICT: [&str; 3] = ["File too large", "No space left", "Failed to assemble"];
 
-/// Runs one job. The current folder of the process changes, so only one thread may run jobs.
+/// Runs one job.
 pub fn run(job: &Job, shell: Shell) -> Answer {
-    try_run(job, shell).unwrap_or_else(|limit| Answer::Limit(limit.to_string()))
+    let answer = match (MISSING, shell) {
+        (Some(reason), _) => Err(anyhow!("{reason}")),
+        (None, Shell::Real) => on_disk(job),
+        (None, Shell::Quick) => in_memory(job),
+    };
+    answer.unwrap_or_else(|limit| Answer::Limit(limit.to_string()))
 }
 
-fn try_run(job: &Job, shell: Shell) -> anyhow::Result<Answer> {
+fn on_disk(job: &Job) -> anyhow::Result<Answer> {
+    let folder = TempDir::with_prefix("job")?;
+    let path = path_of(job)?;
+    place_compiled(folder.path(), path, job.compiled)?;
+    let draft = folder.path().join("draft");
+    let assembled = folder.path().join("assembled");
+    if let Some(bytes) = job.assembled {
+        fs::write(&assembled, bytes)?;
+    }
+    let command = shell_command(job, &draft, &assembled)?;
+    let refusal = fixup(job, path, &command);
+    if job.assembled.is_none() && draft.exists() {
+        return Ok(Answer::Done(fs::read(draft)?));
+    }
+    match refusal? {
+        Some(refusal) => Ok(refusal),
+        None => Ok(Answer::Done(fs::read(path)?)),
+    }
+}
+
+fn in_memory(job: &Job) -> anyhow::Result<Answer> {
+    let path = path_of(job)?;
+    let (draft, assembled) = (PathBuf::from("/draft"), PathBuf::from("/assembled"));
+    let mut files = vec![(path.to_owned(), job.compiled.to_vec())];
+    files.extend(job.assembled.map(|a| (assembled.clone(), a.to_vec())));
+    fs::keep_in_memory(Some(files.into_iter().collect()));
+    set_quick_assembler(job, &draft, &assembled);
+    let refusal = fixup(job, path, "");
+    set_assembler(None);
+    let mut files = fs::keep_in_memory(None).unwrap_or_default();
+    if let (None, Some(draft)) = (job.assembled, files.remove(&draft)) {
+        return Ok(Answer::Done(draft));
+    }
+    match refusal? {
+        Some(refusal) => Ok(refusal),
+        None => Ok(Answer::Done(files.remove(path).unwrap_or_default())),
+    }
+}
+
+/// The path of a job, where it is a relative one that names a file.
+fn path_of<'a>(job: &Job<'a>) -> anyhow::Result<&'a Path> {
+    let path = Path::new(OsStr::from_bytes(job.path));
+    let no_file =
+        path.file_name().is_none() || job.path.ends_with(b"/") || job.path.ends_with(b"/.");
+    if path.is_absolute() {
+        return Err(anyhow!("the path is absolute"));
+    }
+    if no_file || job.path.contains(&0) {
+        return Err(anyhow!("no file can be written at the path"));
+    }
+    Ok(path)
+}
+
+/// Runs postprocess.rs; gives its refusal, if it is one.
+fn fixup(job: &Job, path: &Path, command: &str) -> anyhow::Result<Option<Answer>> {
     let encoding = Encoding::of([job.prelude, job.blocks]);
     let functions = blocks::read(job.blocks, encoding)?;
     let statics = match job.statics {
@@ -76,40 +136,19 @@ fn try_run(job: &Job, shell: Shell) -> anyhow::Result<Answer> {
         3 => ConvertStatics::GlobalWithFilename,
         other => return Err(anyhow!("no such mode: {other}")),
     };
-
-    let folder = TempDir::with_prefix("job")?;
-    let path = Path::new(OsStr::from_bytes(job.path));
-    place_compiled(folder.path(), path, job.compiled)?;
-    let draft = folder.path().join("draft");
-    let assembled = folder.path().join("assembled");
-    if let Some(bytes) = job.assembled {
-        fs::write(&assembled, bytes)?;
-    }
-    let command = match shell {
-        Shell::Real => shell_command(job, &draft, &assembled)?,
-        Shell::Quick => {
-            set_quick_assembler(job, &draft, &assembled);
-            String::new()
-        }
-    };
     let result = catch_unwind(AssertUnwindSafe(|| {
         postprocess::fixup_objfile(
             path,
             &functions,
             &encoding.decode(job.prelude),
-            &command,
+            command,
             &encoding,
             job.drop_mdebug_gptab,
             statics,
         )
     }));
-    set_assembler(None);
-
-    if job.assembled.is_none() && draft.exists() {
-        return Ok(Answer::Done(fs::read(draft)?));
-    }
     match result {
-        Ok(Ok(())) => Ok(Answer::Done(fs::read(path)?)),
+        Ok(Ok(())) => Ok(None),
         Ok(Err(e))
             if NO_VERDICT
                 .iter()
@@ -117,14 +156,12 @@ fn try_run(job: &Job, shell: Shell) -> anyhow::Result<Answer> {
         {
             Err(e)
         }
-        Ok(Err(e)) => Ok(Answer::Refused(format!("err {e}"))),
+        Ok(Err(e)) => Ok(Some(Answer::Refused(format!("err {e}")))),
         Err(payload) => {
             let text = payload.downcast_ref::<String>().map(String::as_str);
             let text = text.or_else(|| payload.downcast_ref::<&str>().copied());
-            Ok(Answer::Refused(format!(
-                "panic {}",
-                text.unwrap_or("without a message")
-            )))
+            let text = text.unwrap_or("without a message");
+            Ok(Some(Answer::Refused(format!("panic {text}"))))
         }
     }
 }
@@ -132,9 +169,6 @@ fn try_run(job: &Job, shell: Shell) -> anyhow::Result<Answer> {
 /// Goes into a new folder inside `folder` and writes C there under its path. The new folder
 /// lies so deep that no `..` of the path leads out of `folder`.
 fn place_compiled(folder: &Path, path: &Path, compiled: &[u8]) -> anyhow::Result<()> {
-    if path.is_absolute() {
-        return Err(anyhow!("the path is absolute"));
-    }
     let mut current = folder.join("current");
     for component in path.components() {
         if component == Component::ParentDir {

@@ -3,7 +3,7 @@
 //! job is a folder: c.o, a.o, prelude, blocks, settings (path, flag, mode), and the answers
 //! draft.out, merged.out and result.
 
-use oracle::{Answer, Job, Shell, run};
+use oracle::{Answer, Job, MISSING, Shell, run};
 use std::{env, fs, path::Path};
 
 #[test]
@@ -12,6 +12,7 @@ fn stored_answers() {
         println!("ORACLE_CASES is not set: no stored jobs are run");
         return;
     };
+    assert_eq!(MISSING, None);
     let mut count = 0;
     for job in fs::read_dir(cases).unwrap() {
         count += check(&job.unwrap().path().canonicalize().unwrap());

@@ -1,7 +1,10 @@
 //! Stand-in for `temp_dir`: a new folder that is removed with all it holds on drop.
 
+// Where files are kept in memory there is no folder to make.
+use std_standin::fs;
+
 use std::{
-    env, fs, io,
+    env, io,
     path::{Path, PathBuf},
     process,
     sync::atomic::{AtomicUsize, Ordering},
