@@ -128,7 +128,7 @@ fn path_of<'a>(job: &Job<'a>) -> anyhow::Result<&'a Path> {
 /// Runs postprocess.rs; gives its refusal, if it is one.
 fn fixup(job: &Job, path: &Path, command: &str) -> anyhow::Result<Option<Answer>> {
     let encoding = Encoding::of([job.prelude, job.blocks]);
-    let functions = blocks::read(job.blocks, encoding)?;
+    let functions = blocks::read(job.blocks, encoding).map_err(|e| anyhow!("block file: {e}"))?;
     let statics = match job.statics {
         0 => ConvertStatics::No,
         1 => ConvertStatics::Local,

@@ -196,6 +196,14 @@ module _ (t : List ℕ) where
       → (getD t (nameEnd t at) 0 ≡ 0) × ((i : ℕ) → i < length (nameAt t at) → getD (nameAt t at) i 0 ≡ 0 → ⊥)
   name-whole at e = (end-zero at e, name-nonzero at)
 
+-- a name that is s has the bytes of s
+pub name-is-apart : (t s : List ℕ) (at i : ℕ) → i < length s → (getD t (at + i) 0 ≡ getD s i 0 → ⊥) → same (nameAt t at) s ≡ false
+name-is-apart t s at i h ne =
+    same-ne _ _
+    (λ e.
+      let k : i < length (nameAt t at) = rw e h in
+      ne (sym (name-byte t at i k) ∙ ap (λ (l : List ℕ). getD l i 0) e))
+
 -- the turns of a loop that compares the name at j, byte by byte, with a string from i on
 module _ (t s : List ℕ) (j i : ℕ) where
   pub name-is-next : j < length t → (getD t j 0 ≡ 0 → ⊥) → i < length s → getD t j 0 ≡ getD s i 0

@@ -107,9 +107,9 @@ pub fn is_joined(s: &[u8], a: &[u8], b: &[u8]) -> bool
     }
 }
 
-// Whether the name at `at` is a given byte string. It reads no further than the first byte that differs, so a long name costs nothing
-// where a short one is asked for.
-pub fn name_is(t: &[u8], at: usize, s: &[u8]) -> bool
+// Whether the name at `at` is a given byte string, byte by byte. It reads no further than the first byte that differs, so a long name costs
+// nothing where a short one is asked for.
+fn name_from(t: &[u8], at: usize, s: &[u8]) -> bool
     ensures { λ r. ⌜ r ≡ same (nameAt (now (t .entry)) at) (now (s .entry)) ⌝ }
 {
     let mut i: usize = 0;
@@ -131,6 +131,23 @@ pub fn name_is(t: &[u8], at: usize, s: &[u8]) -> bool
         return true;
     }
     t[j] == 0
+}
+
+// Whether the name at `at` is a given byte string. The last byte is compared first: the labels of an object begin alike and end apart.
+pub fn name_is(t: &[u8], at: usize, s: &[u8]) -> bool
+    ensures { λ r. ⌜ r ≡ same (nameAt (now (t .entry)) at) (now (s .entry)) ⌝ }
+{
+    let n = s.len();
+    if at < t.len() {
+        if n <= t.len() - at {
+            if n > 0 {
+                if t[at + (n - 1)] != s[n - 1] {
+                    return false;
+                }
+            }
+        }
+    }
+    name_from(t, at, s)
 }
 
 // Whether no byte is over 127.
