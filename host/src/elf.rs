@@ -116,16 +116,25 @@ impl<'a> ObjectFile<'a> {
         string(strings, self.section(index)?.sh_name)
     }
 
+    /// The headers that lie inside the file, with their indices. They stand in a row, so that
+    /// none lies inside behind one that does not.
+    pub fn sections(self) -> impl Iterator<Item = (usize, SectionHeader)> {
+        (0..).map_while(move |index| Some((index, self.section(index)?)))
+    }
+
     /// "The" section of a name: the first.
     pub fn section_named(self, name: &[u8]) -> Option<usize> {
-        (0..self.section_count()?).find(|&index| self.section_name(index) == Some(name))
+        let strings = self.strings(self.section_names_index()?)?;
+        let mut sections = self.sections();
+        let is_named = |section: &SectionHeader| string(strings, section.sh_name) == Some(name);
+        let (index, _) = sections.find(|(_, section)| is_named(section))?;
+        Some(index)
     }
 
     /// The first symbol table, with its index.
     pub fn symbol_table(self) -> Option<(usize, SectionHeader)> {
-        let sections = (0..self.section_count()?).map(|index| (index, self.section(index)));
-        let mut headers = sections.filter_map(|(index, section)| Some((index, section?)));
-        headers.find(|(_, section)| section.sh_type == SHT_SYMTAB)
+        let mut sections = self.sections();
+        sections.find(|(_, section)| section.sh_type == SHT_SYMTAB)
     }
 
     pub fn symbols(self) -> Option<Symbols<'a>> {
