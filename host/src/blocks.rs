@@ -27,7 +27,8 @@ const ANY: Value = Value {
 
 const SPAN: Value = Value {
     is_sound: |value| value.is_empty() || span_parts(value).is_some(),
-    words: "nothing, or a label, a size up to 1048576 and an align8 up to 8, with single spaces",
+    words: "nothing, or `label size align8` with single spaces: a size up to 1048576, an align8 \
+            up to 8, no leading zeros",
 };
 
 const LABEL: Value = Value {

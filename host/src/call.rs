@@ -1,5 +1,7 @@
 //! The exported call on slices: the one place with `unsafe`.
 
+#![allow(unsafe_code)]
+
 /// The largest compiled object, prelude or block file, in bytes (docs/SIZES.md).
 pub const FILE_LIMIT: usize = 1_048_576;
 

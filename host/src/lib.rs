@@ -4,6 +4,18 @@
 //! `draft` lends all buffers. `call::draft_into` is the exported call itself, on buffers of the
 //! caller's. The merge will stand beside both once the library has it.
 
+#![deny(unsafe_code)]
+// The words read arbitrary bytes: nothing there may panic.
+#![cfg_attr(
+    not(test),
+    deny(
+        clippy::expect_used,
+        clippy::indexing_slicing,
+        clippy::panic,
+        clippy::unwrap_used
+    )
+)]
+
 mod blocks;
 pub mod call;
 mod elf;
@@ -12,6 +24,11 @@ mod words;
 
 pub use refusal::{Answer, Broken, Error, Number, Object, Refusal};
 pub use words::{Inputs, words};
+
+// The example in the README is compiled with the tests.
+#[cfg(doctest)]
+#[doc = include_str!("../README.md")]
+struct Readme;
 
 /// The longest draft that `draft` makes, in bytes. Where every place of the block file is below
 /// `FILE_LIMIT`, a draft has less than 5 MiB; only a label with a larger value asks for more.

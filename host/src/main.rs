@@ -1,4 +1,8 @@
 //! The command `daphulle`. src/help.txt says what it does.
+//!
+//! Messages show names with `{:?}`: a name may hold an LF, and a message is one line.
+
+#![forbid(unsafe_code)]
 
 mod arguments;
 mod files;

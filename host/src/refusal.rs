@@ -3,59 +3,61 @@
 use crate::call::Outcome;
 use std::{error, fmt};
 
-/// The rows of document 01's table that a call can give so far, with their numbers. 10 to 20 are
-/// the merge's alone and come with it: until then no value stands for them, so no words can be
-/// said of them, and once they are here `words` does not compile before each has its own.
-#[derive(Clone, Copy, Debug, PartialEq, Eq)]
-pub enum Number {
-    Limits = 1,
-    FileHeader = 2,
-    SectionHeader = 3,
-    SectionName = 4,
-    SymbolTable = 5,
-    RelocationTable = 6,
-    BlockFile = 7,
-    BlockPlace = 8,
-    BlockAlignment = 9,
-    OutputRoom = 21,
+/// An enum of document 01's codes. Its values, the list of them and the way back from a code come
+/// from one list, so that no value can be forgotten in one of them.
+macro_rules! codes {
+    ($(#[$about:meta])* $name:ident { $($(#[$note:meta])* $value:ident = $code:literal,)* }) => {
+        $(#[$about])*
+        #[derive(Clone, Copy, Debug, PartialEq, Eq)]
+        pub enum $name {
+            $($(#[$note])* $value = $code,)*
+        }
+
+        impl $name {
+            pub const ALL: &[$name] = &[$($name::$value,)*];
+
+            /// Document 01's code.
+            pub const fn code(self) -> u32 {
+                self as u32
+            }
+
+            /// The value of a code, if document 01 has it.
+            pub const fn of(code: u32) -> Option<$name> {
+                match code {
+                    $($code => Some($name::$value),)*
+                    _ => None,
+                }
+            }
+        }
+    };
 }
 
-impl Number {
-    pub const ALL: [Number; 10] = [
-        Number::Limits,
-        Number::FileHeader,
-        Number::SectionHeader,
-        Number::SectionName,
-        Number::SymbolTable,
-        Number::RelocationTable,
-        Number::BlockFile,
-        Number::BlockPlace,
-        Number::BlockAlignment,
-        Number::OutputRoom,
-    ];
-
-    /// Document 01's number.
-    pub const fn code(self) -> u32 {
-        self as u32
+codes! {
+    /// The rows of document 01's table that a call can give so far. 10 to 20 are the merge's alone
+    /// and come with it: until then no value stands for them, so no words can be said of them, and
+    /// once they are here `words` does not compile before each has its own.
+    Number {
+        Limits = 1,
+        FileHeader = 2,
+        SectionHeader = 3,
+        SectionName = 4,
+        SymbolTable = 5,
+        RelocationTable = 6,
+        BlockFile = 7,
+        BlockPlace = 8,
+        BlockAlignment = 9,
+        OutputRoom = 21,
     }
 }
 
-/// The object that a refusal is about.
-#[derive(Clone, Copy, Debug, PartialEq, Eq)]
-pub enum Object {
-    None = 0,
-    /// C, the compiled object.
-    Compiled = 1,
-    /// A, the assembled object.
-    Assembled = 2,
-}
-
-impl Object {
-    pub const ALL: [Object; 3] = [Object::None, Object::Compiled, Object::Assembled];
-
-    /// Document 01's number.
-    pub const fn code(self) -> u32 {
-        self as u32
+codes! {
+    /// The object that a refusal is about.
+    Object {
+        None = 0,
+        /// C, the compiled object.
+        Compiled = 1,
+        /// A, the assembled object.
+        Assembled = 2,
     }
 }
 
@@ -147,10 +149,8 @@ impl Outcome {
     }
 
     fn refused(self, room: usize) -> Option<Answer> {
-        let mut numbers = Number::ALL.into_iter();
-        let number = numbers.find(|number| number.code() == self.number)?;
-        let mut objects = Object::ALL.into_iter();
-        let object = objects.find(|object| object.code() == self.object)?;
+        let number = Number::of(self.number)?;
+        let object = Object::of(self.object)?;
         // 21 is given only where more is needed than there is.
         let needless = number == Number::OutputRoom && self.place <= room as u64;
         (self.length == 0 && !needless).then_some(Answer::Refused(number, object, self.place))
@@ -173,15 +173,17 @@ mod tests {
 
     #[test]
     fn the_numbers_are_those_of_a_draft() {
-        let codes = Number::ALL.map(Number::code);
-        assert_eq!(codes, [1, 2, 3, 4, 5, 6, 7, 8, 9, 21]);
-        assert_eq!(Object::ALL.map(Object::code), [0, 1, 2]);
+        let known = (0..1000).filter(|&code| Number::of(code).is_some());
+        assert!(known.eq([1, 2, 3, 4, 5, 6, 7, 8, 9, 21]));
+        for &number in Number::ALL {
+            assert_eq!(Number::of(number.code()), Some(number));
+        }
     }
 
     #[test]
     fn every_row_is_read() {
-        for number in Number::ALL {
-            for object in Object::ALL {
+        for &number in Number::ALL {
+            for &object in Object::ALL {
                 let refused = outcome(0, number.code(), object.code(), 7);
                 assert_eq!(
                     refused.answer(6),

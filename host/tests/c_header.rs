@@ -3,7 +3,16 @@
 mod common;
 
 use common::{CASE_FILE, DRAFT, Folder};
-use std::{fs, process::Command};
+use daphulle::{
+    Number, Object,
+    call::{BLOCK_TABLE, FILE_LIMIT, Outcome, PLACE_TABLE},
+};
+use std::{
+    fmt::Debug,
+    fs,
+    mem::{offset_of, size_of},
+    process::Command,
+};
 
 const ARCHIVE: &str = env!("DAPHULLE_ARCHIVE");
 const INCLUDE: &str = concat!(env!("CARGO_MANIFEST_DIR"), "/include");
@@ -51,4 +60,60 @@ fn a_cpp_program_links() {
         .unwrap();
     assert!(built.status.success(), "{built:?}");
     assert!(Command::new(&program).status().unwrap().success());
+}
+
+/// `FileHeader` as `DAPHULLE_FILE_HEADER`.
+fn constant(value: impl Debug) -> String {
+    let mut name = "DAPHULLE".to_string();
+    for letter in format!("{value:?}").chars() {
+        if letter.is_uppercase() {
+            name.push('_');
+        }
+        name.extend(letter.to_uppercase());
+    }
+    name
+}
+
+/// Every number that Rust and C both write down is the same.
+#[test]
+fn the_header_has_the_numbers_of_the_library() {
+    let mut equal = vec![
+        ("DAPHULLE_FILE_LIMIT".into(), FILE_LIMIT),
+        ("DAPHULLE_BLOCK_TABLE".into(), BLOCK_TABLE),
+        ("DAPHULLE_PLACE_TABLE".into(), PLACE_TABLE),
+        (
+            "sizeof(struct daphulle_outcome)".into(),
+            size_of::<Outcome>(),
+        ),
+        ("FIELD(length)".into(), offset_of!(Outcome, length)),
+        ("FIELD(number)".into(), offset_of!(Outcome, number)),
+        ("FIELD(object)".into(), offset_of!(Outcome, object)),
+        ("FIELD(place)".into(), offset_of!(Outcome, place)),
+    ];
+    equal.extend(
+        Number::ALL
+            .iter()
+            .map(|&n| (constant(n), n.code() as usize)),
+    );
+    equal.extend(
+        Object::ALL
+            .iter()
+            .map(|&o| (constant(o), o.code() as usize)),
+    );
+    let mut text = String::from(
+        "#include <daphulle.h>\n#define FIELD(name) offsetof(struct daphulle_outcome, name)\n",
+    );
+    for (name, value) in equal {
+        text += &format!("_Static_assert({name} == {value}, \"differs\");\n");
+    }
+    let folder = Folder::new();
+    let source = folder.path().join("numbers.c");
+    fs::write(&source, text).unwrap();
+    let checked = Command::new("cc")
+        .args(["-std=c11", "-fsyntax-only", "-I", INCLUDE])
+        .args(WARNINGS)
+        .arg(&source)
+        .output()
+        .unwrap();
+    assert!(checked.status.success(), "{checked:?}");
 }

@@ -62,8 +62,8 @@ fn words_of_any_refusal_on_any_bytes() {
         };
         let small = random.below(60) as u64;
         for place in [small, compiled.len() as u64, random.next(), u64::MAX] {
-            for number in Number::ALL {
-                for object in Object::ALL {
+            for &number in Number::ALL {
+                for &object in Object::ALL {
                     let words = words(&inputs, number, object, place);
                     assert!(is_one_line(&words), "{words:?}");
                 }

@@ -310,7 +310,12 @@ fn number_7_shows_the_line() {
         (
             "desc=\ntext=t 4\n".into(),
             "refused 7 0 2: line 2 of the block file is `text=t 4`, but `text=` takes \
-             nothing, or a label, a size up to 1048576 and an align8 up to 8, with single spaces",
+             nothing, or `label size align8` with single spaces: a size up to 1048576, an align8 up \
+             to 8, no leading zeros",
+        ),
+        (
+            "desc=\n\n".into(),
+            "refused 7 0 2: line 2 of the block file is empty, where `text=` must stand",
         ),
         (
             file("asm=\n"),
@@ -443,7 +448,7 @@ fn words_are_not_made_up() {
             "an align8 is not 0 and not 8 - (place mod 8)",
         ),
     ] {
-        for object in Object::ALL {
+        for &object in Object::ALL {
             for place in [0, 1, 4, u64::MAX] {
                 assert_eq!(words(&inputs, number, object, place), clause, "{place}");
             }

@@ -22,7 +22,10 @@ pub(super) fn words(file: &[u8], place: usize) -> Option<String> {
             )
         });
     };
-    let text = quoted(bare(line));
+    let text = match bare(line) {
+        [] => "empty".into(),
+        bare => quoted(bare),
+    };
     let this = format!("line {place} of the block file");
     if ends == BLOCK_LIMIT && matches!(last, None | Some(b"end=\n")) {
         return Some(format!(
