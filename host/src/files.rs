@@ -28,23 +28,43 @@ pub fn read(name: &OsStr) -> Result<Vec<u8>, String> {
         .map_err(|error| format!("cannot read {name:?}: {error}"))
 }
 
-/// Writes the output, whole or not at all; standard output and devices get it as it comes.
+/// Writes the output, whole or not at all where it is a file.
 pub fn write(name: &OsStr, bytes: &[u8]) -> Result<(), String> {
     if name == "-" {
         return print(bytes);
     }
-    // A link stays, and what it leads to is replaced.
-    let path = fs::canonicalize(name).unwrap_or_else(|_| name.into());
-    let written = match fs::metadata(&path) {
-        // A device or a pipe cannot be replaced.
-        Ok(there) if !there.is_file() => OpenOptions::new()
+    let written = match followed(Path::new(name)) {
+        Some(path) if is_replaceable(&path) => replace(&path, bytes),
+        _ => OpenOptions::new()
             .write(true)
-            .open(&path)
+            .truncate(true)
+            .open(name)
             .and_then(|mut file| file.write_all(bytes)),
-        Ok(there) => replace(&path, bytes, Some(there.permissions())),
-        Err(_) => replace(&path, bytes, None),
     };
     written.map_err(|error| format!("cannot write {name:?}: {error}"))
+}
+
+/// The path that a name leads to, so that a link stays and what it leads to is replaced. `None`
+/// for an open file (/dev/stdout, /dev/fd/3), whoever else may be writing it, and for a circle.
+fn followed(name: &Path) -> Option<PathBuf> {
+    const MOST_LINKS: usize = 40;
+    let mut path = name.to_path_buf();
+    for _ in 0..MOST_LINKS {
+        let Ok(link) = fs::read_link(&path) else {
+            return Some(path);
+        };
+        let folder = fs::canonicalize(path.with_file_name(".")).ok()?;
+        if folder.starts_with("/proc") {
+            return None;
+        }
+        path = folder.join(link);
+    }
+    None
+}
+
+/// Devices, pipes and folders cannot be replaced; a file can, and one that is not there yet.
+fn is_replaceable(path: &Path) -> bool {
+    fs::metadata(path).map_or(true, |there| there.is_file())
 }
 
 /// Writes to standard output.
@@ -57,11 +77,11 @@ pub fn print(bytes: &[u8]) -> Result<(), String> {
 }
 
 /// A new file in the same folder takes the place of the path once it is whole.
-fn replace(path: &Path, bytes: &[u8], permissions: Option<fs::Permissions>) -> io::Result<()> {
+fn replace(path: &Path, bytes: &[u8]) -> io::Result<()> {
     let (temporary, mut file) = Temporary::beside(path)?;
     file.write_all(bytes)?;
-    if let Some(permissions) = permissions {
-        file.set_permissions(permissions)?;
+    if let Ok(there) = fs::metadata(path) {
+        file.set_permissions(there.permissions())?;
     }
     drop(file);
     fs::rename(&temporary.0, path)

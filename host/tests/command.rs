@@ -10,7 +10,7 @@ use std::{
     io::{Read, Write},
     os::unix::{
         ffi::OsStrExt,
-        fs::{FileTypeExt, PermissionsExt, symlink},
+        fs::{FileTypeExt, MetadataExt, PermissionsExt, symlink},
     },
     process::{Command, Output, Stdio},
 };
@@ -123,6 +123,40 @@ fn an_output_keeps_its_link_and_its_permissions() {
     assert_eq!(fs::read(&target).unwrap(), DRAFT);
     let mode = fs::metadata(&target).unwrap().permissions().mode();
     assert_eq!(mode & 0o777, 0o640);
+}
+
+#[test]
+fn a_link_to_nothing_and_a_link_in_a_circle() {
+    let folder = known_folder();
+    fs::create_dir(folder.path().join("folder")).unwrap();
+    symlink("folder/new", folder.path().join("out.s")).unwrap();
+    assert_eq!(ended(&run(&folder, &USUAL)), (0, &b""[..], ""));
+    let draft = fs::read(folder.path().join("folder/new")).unwrap();
+    assert_eq!(draft, DRAFT);
+    symlink("circle", folder.path().join("circle")).unwrap();
+    let line =
+        "daphulle: cannot write \"circle\": Too many levels of symbolic links (os error 40)\n";
+    let output = run(&folder, &usual_but("out.s", "circle"));
+    assert_eq!(ended(&output), (2, &b""[..], line));
+    assert_eq!(
+        fs::read_dir(folder.path().join("folder")).unwrap().count(),
+        1
+    );
+}
+
+/// A file that is open as standard output is not taken away from those who write it, too.
+#[test]
+fn an_open_file_is_written_not_replaced() {
+    let folder = known_folder();
+    let path = folder.path().join("open");
+    let file = File::create(&path).unwrap();
+    let number = file.metadata().unwrap().ino();
+    let mut command = Command::new(COMMAND);
+    command.args(usual_but("out.s", "/dev/stdout")).stdout(file);
+    let status = command.current_dir(folder.path()).status().unwrap();
+    assert_eq!(status.code(), Some(0));
+    assert_eq!(fs::read(&path).unwrap(), DRAFT);
+    assert_eq!(fs::metadata(&path).unwrap().ino(), number);
 }
 
 #[test]
