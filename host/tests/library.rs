@@ -35,6 +35,9 @@ fn a_draft_that_is_longer_than_the_first_output() {
         draft,
         [head, &"nop\n".repeat(1 << 18), tail].concat().into_bytes()
     );
+    let within = |limit| draft_within(limit, &compiled, b"", blocks.as_bytes());
+    assert_eq!(within(draft.len()).map(|text| text.len()), Ok(draft.len()));
+    assert!(within(draft.len() - 1).is_err());
 }
 
 #[test]
