@@ -78,6 +78,7 @@ pub fn draft_within(
                 compiled,
                 prelude,
                 blocks,
+                room: limit,
             };
             let words = words(&inputs, number, object, place);
             Err(Error::Refused(Refusal {

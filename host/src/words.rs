@@ -20,6 +20,8 @@ pub struct Inputs<'a> {
     pub compiled: &'a [u8],
     pub prelude: &'a [u8],
     pub blocks: &'a [u8],
+    /// The most bytes that the output may have.
+    pub room: usize,
 }
 
 impl<'a> Inputs<'a> {
@@ -55,9 +57,11 @@ fn told(inputs: &Inputs, number: Number, object: Object, place: u64) -> Option<S
             let fault = places::first_fault(inputs.object(object)?, inputs.blocks)?;
             ((fault.number, fault.block) == (number, at)).then_some(fault.words)
         }
-        Number::OutputRoom => Some(format!(
-            "the result needs {place} bytes, more than the output has"
-        )),
+        Number::OutputRoom => {
+            let room = inputs.room;
+            let result = format!("the result has {place} bytes, the output may have {room}");
+            (at > room).then_some(result)
+        }
     }
 }
 

@@ -208,8 +208,8 @@ fn a_draft_over_the_limit_is_refused() {
     let folder = known_folder();
     fs::write(folder.path().join("c.o"), object(&[("far", 1 << 24)])).unwrap();
     fs::write(folder.path().join("blocks"), block("", "far 4 0", "")).unwrap();
-    let line = "daphulle: refused 21 0 16777424: the result needs 16777424 bytes, more than the \
-                output has\n";
+    let line = "daphulle: refused 21 0 16777424: the result has 16777424 bytes, the output may have \
+                16777216\n";
     assert_eq!(ended(&run(&folder, &USUAL)), (1, &b""[..], line));
     assert_eq!(folder.names(), NAMES);
 }

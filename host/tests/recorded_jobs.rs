@@ -4,7 +4,7 @@
 mod common;
 
 use common::object;
-use daphulle::{Error, Inputs, Number, draft_within, words};
+use daphulle::{Error, Inputs, draft_within, words};
 use std::fs;
 
 const FOLDER: &str = concat!(env!("CARGO_MANIFEST_DIR"), "/../crates/draft_jobs");
@@ -21,8 +21,7 @@ fn take_length(bytes: &mut &[u8]) -> usize {
     u32::from_be_bytes(take(bytes, 4).try_into().unwrap()) as usize
 }
 
-/// The words say more than the general clause: an object and a block file without a fault would
-/// have that one.
+/// The words say more than the general clause, which inputs without a fault have.
 fn assert_told(error: &Error) {
     let Error::Refused(refusal) = error else {
         panic!("{error}");
@@ -31,11 +30,10 @@ fn assert_told(error: &Error) {
         compiled: &object(&[]),
         prelude: b"",
         blocks: b"",
+        room: usize::MAX,
     };
-    if refusal.number != Number::OutputRoom {
-        let clause = words(&sound, refusal.number, refusal.object, refusal.place);
-        assert_ne!(refusal.words, clause, "{refusal}");
-    }
+    let clause = words(&sound, refusal.number, refusal.object, refusal.place);
+    assert_ne!(refusal.words, clause, "{refusal}");
 }
 
 #[test]

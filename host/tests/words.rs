@@ -404,7 +404,8 @@ fn number_21_says_the_length() {
     check(&[(
         object(&[("far", 0xffff_fffc)]),
         file.as_bytes(),
-        "refused 21 0 4294967491: the result needs 4294967491 bytes, more than the output has",
+        "refused 21 0 4294967491: the result has 4294967491 bytes, the output may have \
+         16777216",
     )]);
 }
 
@@ -420,6 +421,7 @@ fn words_are_not_made_up() {
         compiled: &compiled,
         prelude: &prelude,
         blocks: &blocks,
+        room: usize::MAX,
     };
     let name_clause =
         "e_shstrndx names no string table, or a section name has no zero end or a byte over 127";
@@ -447,6 +449,7 @@ fn words_are_not_made_up() {
             Number::BlockAlignment,
             "an align8 is not 0 and not 8 - (place mod 8)",
         ),
+        (Number::OutputRoom, "the output is shorter than the result"),
     ] {
         for &object in Object::ALL {
             for place in [0, 1, 4, u64::MAX] {
