@@ -1,0 +1,176 @@
+//! Reads an object for the words of a refusal. The bytes may be anything: what cannot be read is
+//! `None`. Names are the gABI's; fields are big-endian, as document 01 asks.
+
+use std::ffi::CStr;
+
+pub(crate) const HEADER_SIZE: usize = 52;
+pub(crate) const SECTION_SIZE: usize = 40;
+pub(crate) const SYMBOL_SIZE: usize = 16;
+
+pub(crate) const SHT_NULL: u32 = 0;
+pub(crate) const SHT_PROGBITS: u32 = 1;
+pub(crate) const SHT_SYMTAB: u32 = 2;
+pub(crate) const SHT_STRTAB: u32 = 3;
+pub(crate) const SHT_RELA: u32 = 4;
+pub(crate) const SHT_NOBITS: u32 = 8;
+pub(crate) const SHT_REL: u32 = 9;
+pub(crate) const SHT_MIPS_REGINFO: u32 = 0x7000_0006;
+pub(crate) const SHF_LINK_ORDER: u32 = 0x80;
+pub(crate) const SHN_LORESERVE: u32 = 0xff00;
+pub(crate) const SHN_XINDEX: u32 = 0xffff;
+
+const E_SHOFF: usize = 32;
+const E_SHNUM: usize = 48;
+const E_SHSTRNDX: usize = 50;
+
+/// The byte at an offset.
+pub(crate) fn byte(bytes: &[u8], at: usize) -> Option<u32> {
+    bytes.get(at).map(|&byte| byte.into())
+}
+
+/// The field of two bytes at an offset.
+pub(crate) fn half(bytes: &[u8], at: usize) -> Option<u32> {
+    let field = bytes.get(at..)?.first_chunk()?;
+    Some(u16::from_be_bytes(*field).into())
+}
+
+/// The field of four bytes at an offset.
+pub(crate) fn word(bytes: &[u8], at: usize) -> Option<u32> {
+    let field = bytes.get(at..)?.first_chunk()?;
+    Some(u32::from_be_bytes(*field))
+}
+
+/// The string at an offset of a string table, if it has a zero end.
+pub(crate) fn string(table: &[u8], at: u32) -> Option<&[u8]> {
+    let rest = table.get(at as usize..)?;
+    Some(CStr::from_bytes_until_nul(rest).ok()?.to_bytes())
+}
+
+pub(crate) struct SectionHeader {
+    pub sh_name: u32,
+    pub sh_type: u32,
+    pub sh_flags: u32,
+    pub sh_offset: u32,
+    pub sh_size: u32,
+    pub sh_link: u32,
+    pub sh_info: u32,
+    pub sh_addralign: u32,
+    pub sh_entsize: u32,
+}
+
+/// An object, and what people call it.
+#[derive(Clone, Copy)]
+pub(crate) struct ObjectFile<'a> {
+    pub title: &'static str,
+    pub bytes: &'a [u8],
+}
+
+impl<'a> ObjectFile<'a> {
+    pub fn section_count(self) -> Option<usize> {
+        Some(half(self.bytes, E_SHNUM)? as usize)
+    }
+
+    pub fn section_names_index(self) -> Option<usize> {
+        Some(half(self.bytes, E_SHSTRNDX)? as usize)
+    }
+
+    /// The header of a section that the count has, if it lies inside the file.
+    pub fn section(self, index: usize) -> Option<SectionHeader> {
+        if index >= self.section_count()? {
+            return None;
+        }
+        let start = word(self.bytes, E_SHOFF)? as usize;
+        let at = start.checked_add(index.checked_mul(SECTION_SIZE)?)?;
+        let header = self.bytes.get(at..)?.get(..SECTION_SIZE)?;
+        Some(SectionHeader {
+            sh_name: word(header, 0)?,
+            sh_type: word(header, 4)?,
+            sh_flags: word(header, 8)?,
+            sh_offset: word(header, 16)?,
+            sh_size: word(header, 20)?,
+            sh_link: word(header, 24)?,
+            sh_info: word(header, 28)?,
+            sh_addralign: word(header, 32)?,
+            sh_entsize: word(header, 36)?,
+        })
+    }
+
+    /// The bytes of a section. NOBITS holds none.
+    pub fn contents(self, section: &SectionHeader) -> Option<&'a [u8]> {
+        if section.sh_type == SHT_NOBITS {
+            return Some(&[]);
+        }
+        let rest = self.bytes.get(section.sh_offset as usize..)?;
+        rest.get(..section.sh_size as usize)
+    }
+
+    /// The bytes of a section that is a string table.
+    pub fn strings(self, index: usize) -> Option<&'a [u8]> {
+        let section = self.section(index)?;
+        let is_table = section.sh_type == SHT_STRTAB;
+        is_table.then(|| self.contents(&section)).flatten()
+    }
+
+    pub fn section_name(self, index: usize) -> Option<&'a [u8]> {
+        let strings = self.strings(self.section_names_index()?)?;
+        string(strings, self.section(index)?.sh_name)
+    }
+
+    /// The headers that lie inside the file, with their indices. They stand in a row, so that
+    /// none lies inside behind one that does not.
+    pub fn sections(self) -> impl Iterator<Item = (usize, SectionHeader)> {
+        (0..).map_while(move |index| Some((index, self.section(index)?)))
+    }
+
+    /// "The" section of a name: the first.
+    pub fn section_named(self, name: &[u8]) -> Option<usize> {
+        let strings = self.strings(self.section_names_index()?)?;
+        let mut sections = self.sections();
+        let is_named = |section: &SectionHeader| string(strings, section.sh_name) == Some(name);
+        let (index, _) = sections.find(|(_, section)| is_named(section))?;
+        Some(index)
+    }
+
+    /// The first symbol table, with its index.
+    pub fn symbol_table(self) -> Option<(usize, SectionHeader)> {
+        let mut sections = self.sections();
+        sections.find(|(_, section)| section.sh_type == SHT_SYMTAB)
+    }
+
+    pub fn symbols(self) -> Option<Symbols<'a>> {
+        let (_, table) = self.symbol_table()?;
+        Some(Symbols {
+            entries: self.contents(&table)?,
+            strings: self.strings(table.sh_link as usize)?,
+        })
+    }
+}
+
+/// A symbol table in hand, with its strings.
+pub(crate) struct Symbols<'a> {
+    entries: &'a [u8],
+    strings: &'a [u8],
+}
+
+pub(crate) struct Symbol<'a> {
+    /// Its 16 bytes.
+    pub entry: &'a [u8],
+    /// `None` where the name has no zero end.
+    pub name: Option<&'a [u8]>,
+    pub st_value: u32,
+    pub st_shndx: u32,
+}
+
+impl<'a> Symbols<'a> {
+    pub fn iter(&self) -> impl Iterator<Item = Symbol<'a>> {
+        let entries = self.entries.chunks_exact(SYMBOL_SIZE);
+        entries.filter_map(|entry| {
+            Some(Symbol {
+                entry,
+                name: string(self.strings, word(entry, 0)?),
+                st_value: word(entry, 4)?,
+                st_shndx: half(entry, 14)?,
+            })
+        })
+    }
+}

@@ -1,0 +1,216 @@
+//! Answers as types: an accepted length, or a row of document 01's table of refusals.
+
+use crate::call::Outcome;
+use std::{error, fmt};
+
+/// An enum of document 01's codes. Its values, the list of them and the way back from a code come
+/// from one list, so that no value can be forgotten in one of them.
+macro_rules! codes {
+    ($(#[$about:meta])* $name:ident { $($(#[$note:meta])* $value:ident = $code:literal,)* }) => {
+        $(#[$about])*
+        #[derive(Clone, Copy, Debug, PartialEq, Eq)]
+        pub enum $name {
+            $($(#[$note])* $value = $code,)*
+        }
+
+        impl $name {
+            pub const ALL: &[$name] = &[$($name::$value,)*];
+
+            /// Document 01's code.
+            pub const fn code(self) -> u32 {
+                self as u32
+            }
+
+            /// The value of a code, if document 01 has it.
+            pub const fn of(code: u32) -> Option<$name> {
+                match code {
+                    $($code => Some($name::$value),)*
+                    _ => None,
+                }
+            }
+        }
+    };
+}
+
+codes! {
+    /// The rows of document 01's table that a call can give so far. 10 to 20 are the merge's alone
+    /// and come with it: until then no value stands for them, so no words can be said of them, and
+    /// once they are here `words` does not compile before each has its own.
+    Number {
+        Limits = 1,
+        FileHeader = 2,
+        SectionHeader = 3,
+        SectionName = 4,
+        SymbolTable = 5,
+        RelocationTable = 6,
+        BlockFile = 7,
+        BlockPlace = 8,
+        BlockAlignment = 9,
+        OutputRoom = 21,
+    }
+}
+
+codes! {
+    /// The object that a refusal is about.
+    Object {
+        None = 0,
+        /// C, the compiled object.
+        Compiled = 1,
+        /// A, the assembled object.
+        Assembled = 2,
+    }
+}
+
+/// A refused call. It is shown as `refused NUMBER OBJECT PLACE: words`, on one line.
+#[derive(Clone, Debug, PartialEq, Eq)]
+pub struct Refusal {
+    pub number: Number,
+    pub object: Object,
+    pub place: u64,
+    /// What is at fault, as a person would name it.
+    pub words: String,
+}
+
+impl fmt::Display for Refusal {
+    fn fmt(&self, f: &mut fmt::Formatter) -> fmt::Result {
+        let (number, object) = (self.number.code(), self.object.code());
+        write!(
+            f,
+            "refused {number} {object} {}: {}",
+            self.place, self.words
+        )
+    }
+}
+
+/// The linked library gave an answer that is none of document 01's, so it is not the proved one.
+/// This is an error of its own, not a `Number` for "unknown": a refusal always has a true meaning.
+#[derive(Clone, Copy, Debug, PartialEq, Eq)]
+pub struct Broken(pub Outcome);
+
+impl fmt::Display for Broken {
+    fn fmt(&self, f: &mut fmt::Formatter) -> fmt::Result {
+        let Outcome {
+            length,
+            number,
+            object,
+            place,
+        } = self.0;
+        write!(
+            f,
+            "the linked libsplicer.a is not the proved one: it answered length {length}, \
+             number {number}, object {object}, place {place}"
+        )
+    }
+}
+
+/// Why there is no result.
+#[derive(Clone, Debug, PartialEq, Eq)]
+pub enum Error {
+    Refused(Refusal),
+    Broken(Broken),
+}
+
+impl fmt::Display for Error {
+    fn fmt(&self, f: &mut fmt::Formatter) -> fmt::Result {
+        match self {
+            Error::Refused(refusal) => refusal.fmt(f),
+            Error::Broken(broken) => broken.fmt(f),
+        }
+    }
+}
+
+impl error::Error for Error {}
+
+impl From<Broken> for Error {
+    fn from(broken: Broken) -> Error {
+        Error::Broken(broken)
+    }
+}
+
+/// An outcome that document 01 has.
+#[derive(Clone, Copy, Debug, PartialEq, Eq)]
+pub enum Answer {
+    Accepted { length: usize },
+    Refused(Number, Object, u64),
+}
+
+impl Outcome {
+    /// What the outcome says, where the output had `room` bytes.
+    pub fn answer(self, room: usize) -> Result<Answer, Broken> {
+        self.accepted(room)
+            .or_else(|| self.refused(room))
+            .ok_or(Broken(self))
+    }
+
+    fn accepted(self, room: usize) -> Option<Answer> {
+        let length = usize::try_from(self.length).ok()?;
+        let clear = (self.number, self.object, self.place) == (0, 0, 0);
+        (clear && length <= room).then_some(Answer::Accepted { length })
+    }
+
+    fn refused(self, room: usize) -> Option<Answer> {
+        let number = Number::of(self.number)?;
+        let object = Object::of(self.object)?;
+        // 21 is given only where more is needed than there is.
+        let needless = number == Number::OutputRoom && self.place <= room as u64;
+        (self.length == 0 && !needless).then_some(Answer::Refused(number, object, self.place))
+    }
+}
+
+#[cfg(test)]
+mod tests {
+    use super::{Answer, Broken, Number, Object};
+    use crate::call::Outcome;
+
+    fn outcome(length: u64, number: u32, object: u32, place: u64) -> Outcome {
+        Outcome {
+            length,
+            number,
+            object,
+            place,
+        }
+    }
+
+    #[test]
+    fn the_numbers_are_those_of_a_draft() {
+        let known = (0..1000).filter(|&code| Number::of(code).is_some());
+        assert!(known.eq([1, 2, 3, 4, 5, 6, 7, 8, 9, 21]));
+        for &number in Number::ALL {
+            assert_eq!(Number::of(number.code()), Some(number));
+        }
+    }
+
+    #[test]
+    fn every_row_is_read() {
+        for &number in Number::ALL {
+            for &object in Object::ALL {
+                let refused = outcome(0, number.code(), object.code(), 7);
+                assert_eq!(
+                    refused.answer(6),
+                    Ok(Answer::Refused(number, object, 7)),
+                    "{number:?} {object:?}"
+                );
+            }
+        }
+        let accepted = outcome(6, 0, 0, 0);
+        assert_eq!(accepted.answer(6), Ok(Answer::Accepted { length: 6 }));
+    }
+
+    #[test]
+    fn other_answers_are_no_refusals() {
+        for broken in [
+            outcome(7, 0, 0, 0),
+            outcome(0, 0, 1, 0),
+            outcome(0, 0, 0, 1),
+            outcome(1, 2, 1, 0),
+            outcome(0, 2, 3, 0),
+            outcome(0, 10, 1, 0),
+            outcome(0, 20, 1, 0),
+            outcome(0, 22, 1, 0),
+            outcome(0, 21, 0, 6),
+            outcome(0, u32::MAX, 0, 0),
+        ] {
+            assert_eq!(broken.answer(6), Err(Broken(broken)));
+        }
+    }
+}

@@ -1,0 +1,90 @@
+/* Document 01's example and three refusals, from C: draft CASE TEXT, where CASE is
+ * three big-endian lengths, then the compiled object, the prelude and the block
+ * file, and TEXT is their draft. Prints what differs, and then ends with 1. */
+#include <daphulle.h>
+#include <stdio.h>
+#include <stdlib.h>
+#include <string.h>
+
+struct bytes {
+    uint8_t *start;
+    size_t length;
+};
+
+static struct bytes compiled, prelude, blocks, text;
+static uint8_t out[4096], table[DAPHULLE_BLOCK_TABLE], places[DAPHULLE_PLACE_TABLE];
+static int differences;
+
+static struct bytes contents(const char *name) {
+    struct bytes file = {malloc(65536), 0};
+    FILE *stream = fopen(name, "rb");
+    if (!stream || !file.start) {
+        perror(name);
+        exit(2);
+    }
+    file.length = fread(file.start, 1, 65536, stream);
+    fclose(stream);
+    return file;
+}
+
+/* The k-th length at the front of a case. */
+static size_t length_at(struct bytes file, size_t k) {
+    const uint8_t *p = file.start + 4 * k;
+    return (size_t)p[0] << 24 | (size_t)p[1] << 16 | (size_t)p[2] << 8 | p[3];
+}
+
+static void expect(const char *what, int holds) {
+    if (!holds) {
+        printf("differs: %s\n", what);
+        differences++;
+    }
+}
+
+static int is_zero(const uint8_t *bytes, size_t length) {
+    for (size_t i = 0; i < length; i++)
+        if (bytes[i]) return 0;
+    return 1;
+}
+
+/* Calls the draft with noise in the buffers, and looks at what it leaves there. */
+static struct daphulle_outcome call(size_t compiled_length, size_t out_length, size_t table_length) {
+    memset(out, 0xA5, sizeof out);
+    memset(table, 0xA5, sizeof table);
+    memset(places, 0xA5, sizeof places);
+    struct daphulle_outcome r = draft(compiled.start, compiled_length, prelude.start, prelude.length, blocks.start, blocks.length,
+                                      out_length ? out : NULL, out_length, table, table_length, places, sizeof places);
+    expect("the output is clear", r.length <= out_length && is_zero(out + r.length, out_length - r.length));
+    expect("nothing is written past the output", out_length == sizeof out || out[out_length] == 0xA5);
+    expect("the table is clear", is_zero(table, table_length));
+    expect("the places are clear", is_zero(places, sizeof places));
+    return r;
+}
+
+static int is_refusal(struct daphulle_outcome r, enum daphulle_number number, enum daphulle_object object, uint64_t place) {
+    return r.length == 0 && r.number == (uint32_t)number && r.object == (uint32_t)object && r.place == place;
+}
+
+int main(int argc, char **argv) {
+    if (argc != 3) return 2;
+    struct bytes file = contents(argv[1]);
+    text = contents(argv[2]);
+    if (file.length < 12) return 2;
+    compiled = (struct bytes){file.start + 12, length_at(file, 0)};
+    prelude = (struct bytes){compiled.start + compiled.length, length_at(file, 1)};
+    blocks = (struct bytes){prelude.start + prelude.length, length_at(file, 2)};
+    if (text.length > sizeof out || blocks.start + blocks.length != file.start + file.length) return 2;
+
+    struct daphulle_outcome r = call(compiled.length, sizeof out, sizeof table);
+    expect("the draft is accepted", r.number == DAPHULLE_ACCEPTED && r.object == DAPHULLE_NONE && r.place == 0);
+    expect("the draft is the text", r.length == text.length && memcmp(out, text.start, text.length) == 0);
+
+    r = call(51, sizeof out, sizeof table);
+    expect("a short object is refused", is_refusal(r, DAPHULLE_FILE_HEADER, DAPHULLE_COMPILED, 51));
+    r = call(compiled.length, 0, sizeof table);
+    expect("no output is refused", is_refusal(r, DAPHULLE_OUTPUT_ROOM, DAPHULLE_NONE, text.length));
+    r = call(compiled.length, sizeof out, sizeof table - 1);
+    expect("a short table is refused", is_refusal(r, DAPHULLE_LIMITS, DAPHULLE_NONE, 0));
+
+    printf("%d differences\n", differences);
+    return differences != 0;
+}
