@@ -2,7 +2,7 @@
 use mathlib.Core.Path.{_≡_, refl}
 use mathlib.Core.Bool.{true, false}
 use Rattle.packed.specs.Packed.{symbolOf, kindOf, relocationInfo, shifted}
-use Rattle.places.specs.Step.{oddPlace}
+use Rattle.places.specs.Spans.{oddPlace}
 
 -- r_info 00000304 hex: symbol 3, kind 4
 pub info-symbol : symbolOf 0x00000304 ≡ 3

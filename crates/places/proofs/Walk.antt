@@ -28,9 +28,9 @@ use Rattle.blocks.proofs.Blocks.{count-high}
 use Rattle.places.specs.declared.Placing.{Placing}
 use Rattle.places.specs.declared.Placing.the-variants.{Placed, Misplaced, Misaligned}
 use Rattle.places.specs.declared.Step.{Step}
-use Rattle.places.specs.Spans.{spanBlock, spanCode, labelled, spanSize, spanAlign8, labelSymbol, present, place, lacks, reached, taken, endAt, sizeless, early, fault8, fault9, isMisplaced}
+use Rattle.places.specs.Spans.{spanBlock, spanCode, labelled, spanSize, spanAlign8, labelSymbol, present, place, lacks, reached, taken, endAt, sizeless, early, fault8, fault9, isMisplaced, oddPlace}
 use Rattle.places.specs.Walk.{misplacedAt, placing, placeRow, placeTable, Placement, Walked}
-use Rattle.places.specs.Step.{offStep, lowPlace, oddPlace, onStep, onAfter, stepOf}
+use Rattle.places.specs.Step.{offStep, lowPlace, onStep, onAfter, stepOf}
 use Rattle.places.proofs.Spans.{place-read, present-yes, present-no, lacks-labelled, lacks-plain, reached-first, reached-next, taken-is, taken-not, taken-labelled, taken-reached, end-none, end-same, end-other, end-off, end-moved}
 
 module _ (o : ByteOrder) (C B : List ℕ) where
@@ -118,7 +118,7 @@ module _ (o : ByteOrder) (C B : List ℕ) where
   fault9-off j f = rw f
 
   fault9-taken : (j : ℕ) → taken o C B j ≡ true
-      → fault9 o C B j ≡ (not (eqb (spanAlign8 B j) 0) && not (eqb (spanAlign8 B j) (8 - place o C B j % 8)))
+      → fault9 o C B j ≡ oddPlace (place o C B j) (spanAlign8 B j)
   unfolding fault9
   fault9-taken j t = rw t
 
@@ -353,7 +353,8 @@ or-parts : (a b : Bool) → (a || b) ≡ false → (a ≡ false) × (b ≡ false
 or-parts true b f = both refl f
 or-parts false b f = (refl, f)
 
-odd-no : (p a : ℕ) → (not (eqb a 0) && not (eqb a (8 - p % 8))) ≡ false → (a ≡ 0) ⊎ (a ≡ 8 - p % 8)
+odd-no : (p a : ℕ) → oddPlace p a ≡ false → (a ≡ 0) ⊎ (a ≡ 8 - p % 8)
+unfolding oddPlace
 odd-no p a f = by-test (eqb a 0)
     (λ t. inl (eqb-true _ _ t))
     (λ n. inr (eqb-true _ _ (not-false _ (rw n at f))))

@@ -19,6 +19,10 @@ spanBlock j = j / 4
 unfoldable pub spanCode : ℕ → ℕ
 spanCode j = j % 4 + 1
 
+-- an align8 that is not 0 and not 8 - (place mod 8)
+unfoldable pub oddPlace : ℕ → ℕ → Bool
+oddPlace place align8 = not (eqb align8 0) && not (eqb align8 (8 - place % 8))
+
 module _ (B : List ℕ) where
   -- what stands behind the key in line j: nothing, or `label size align8`
   unfoldable pub spanValue : ℕ → List ℕ
@@ -81,7 +85,7 @@ module _ (o : ByteOrder) (C B : List ℕ) where
 
   -- refusal 9: align8 not 0 and not 8 - (place mod 8)
   unfoldable pub fault9 : ℕ → Bool
-  fault9 j = taken j && (not (eqb (spanAlign8 B j) 0) && not (eqb (spanAlign8 B j) (8 - place j % 8)))
+  fault9 j = taken j && oddPlace (place j) (spanAlign8 B j)
 
   unfoldable pub isMisplaced : ℕ → Bool
   isMisplaced j = fault8 j || fault9 j

@@ -1,6 +1,6 @@
 -- What one line comes to in the walk of specs/Walk.antt: its refusals, its row of the table of places, and what the line behind it goes by.
-use Prim.Native.Nat.{ℕ, _+_, _-_, _*_, _%_, _<_}
-use mathlib.Core.Bool.{Bool, false, cond, not, _&&_, _||_}
+use Prim.Native.Nat.{ℕ, _+_, _*_, _%_, _<_}
+use mathlib.Core.Bool.{Bool, false, cond, _||_}
 use mathlib.Core.List.{List}
 use mathlib.Core.Path.{_≡_}
 use lib.Dec.{eqb, ltb}
@@ -9,18 +9,15 @@ use Rattle.symbols.specs.Symbols.{Table}
 use Rattle.blocks.specs.Blocks.{blockCount}
 use Rattle.blocks.specs.Table.{Parsed}
 use Rattle.places.specs.declared.Step.{Step}
-use Rattle.places.specs.Spans.{spanCode, reached, taken, place, endAt, fault8, fault9}
+use Rattle.places.specs.Spans.{spanCode, oddPlace, reached, taken, place, endAt, fault8, fault9}
 
 -- a line that is not taken: its section's end stays
 unfoldable pub offStep : Bool → ℕ → Bool → Step
 offStep m e r = record { misplaced = m; misaligned = false; taken = 0; place = 0; end = e; on = r }
 
--- refusal 8 and refusal 9 of a place p with a size s and an align8 a, where the end of the block before is e
+-- refusal 8 of a place p with a size s, where the end of the block before is e
 unfoldable pub lowPlace : ℕ → ℕ → ℕ → Bool
 lowPlace p s e = eqb s 0 || ltb p e
-
-unfoldable pub oddPlace : ℕ → ℕ → Bool
-oddPlace p a = not (eqb a 0) && not (eqb a (8 - p % 8))
 
 -- a line that is taken: its section's end moves behind it
 unfoldable pub onStep : ℕ → ℕ → ℕ → ℕ → Bool → Step

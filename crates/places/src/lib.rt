@@ -12,9 +12,9 @@ ghost use Rattle.fields.specs.Numbers.{encoded};
 ghost use Rattle.symbols.specs.Symbols.{Table};
 ghost use Rattle.blocks.specs.Blocks.{blockCount};
 ghost use Rattle.blocks.specs.Table.{Parsed};
-ghost use Rattle.places.specs.Spans.{spanCode, spanValue, labelled, spanLabel, spanSize, spanAlign8, labelSymbol, reached, endAt, live, taken, place};
+ghost use Rattle.places.specs.Spans.{oddPlace, spanCode, spanValue, labelled, spanLabel, spanSize, spanAlign8, labelSymbol, reached, endAt, live, taken, place};
 ghost use Rattle.places.specs.Walk.{Placement, Walked};
-ghost use Rattle.places.specs.Step.{lowPlace, oddPlace, offStep, onStep, onAfter, stepOf, AtLine};
+ghost use Rattle.places.specs.Step.{lowPlace, offStep, onStep, onAfter, stepOf, AtLine};
 use fields::ByteOrder;
 
 // The answer of the walk over all blocks: every span is placed, or the block at fault by 8 or by 9.

@@ -1,5 +1,5 @@
 -- `places::is_odd` meets its contract, in each of its two ways. Assumes nothing.
-use Rattle.places.specs.Step.{oddPlace}
+use Rattle.places.specs.Spans.{oddPlace}
 use borrow.Author.Tests.{eq-eqb, ne-eqb}
 use borrow.Author.Needs.{needs}
 use Rattle.places.proofs.is_odd.Statement.{statement}
