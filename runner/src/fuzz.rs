@@ -1,0 +1,270 @@
+//! Coverage-guided fuzzing of the proved draft: jobs that reach a block of code for the first time
+//! are kept and changed further. After every call all that document 01 says of the buffers is
+//! checked; inputs and buffers lie against pages that nobody may touch.
+
+use crate::{
+    compare::{Others, held_against},
+    damage::{damage_lines, damage_object},
+    fence::Fence,
+    job::{Job, job},
+    port::{Refusal, Verdict},
+    random::Random,
+    trace,
+};
+use daphulle::call::{BLOCK_TABLE, Outcome, PLACE_TABLE, draft_into};
+use std::{
+    ffi::{CString, c_char},
+    fs, io,
+    path::Path,
+    time::{Duration, Instant},
+};
+
+unsafe extern "C" {
+    fn watch_calls();
+    fn calls_may_last(seconds: u32);
+    fn keep_input(i: i32, bytes: *const u8, length: usize, path: *const c_char);
+}
+
+/// The longest input and output, and the longest time of a call, in seconds.
+const MOST: usize = 2 << 20;
+const SECONDS: u32 = 20;
+
+/// Pages for three inputs and three buffers, and noise to lend.
+struct Target {
+    inputs: [Fence; 3],
+    buffers: [Fence; 3],
+    noise: Vec<u8>,
+    paths: [CString; 3],
+}
+
+impl Target {
+    fn new(seed: u64, folder: &Path) -> io::Result<Target> {
+        fs::create_dir_all(folder)?;
+        let path = |name: &str| {
+            let path = folder.join(name);
+            CString::new(path.as_os_str().as_encoded_bytes()).map_err(io::Error::other)
+        };
+        Ok(Target {
+            inputs: [MOST, MOST, MOST].map(Fence::new),
+            buffers: [MOST, MOST, MOST].map(Fence::new),
+            noise: Random::new(seed, 0).bytes(1 << 20),
+            paths: [path("c.o")?, path("prelude")?, path("blocks")?],
+        })
+    }
+
+    /// One call with buffers of random lengths: its answer, or what is wrong with it.
+    fn call(&mut self, random: &mut Random, job: &Job) -> Result<Verdict, String> {
+        let room = match random.below(6) {
+            0 => random.below(200),
+            _ => 20_000 + random.below(90_000),
+        };
+        let less = |random: &mut Random, n: usize| match random.below(12) {
+            0 => n - 1,
+            1 => random.below(n),
+            2 => n + random.below(5000),
+            _ => n,
+        };
+        let lengths = [room, less(random, BLOCK_TABLE), less(random, PLACE_TABLE)];
+        let at_end = |random: &mut Random| !random.once_in(5);
+        let [c, p, b] = &mut self.inputs;
+        let files = [
+            c.hold(&job.compiled, at_end(random)),
+            p.hold(&job.prelude, at_end(random)),
+            b.hold(&job.blocks, at_end(random)),
+        ];
+        let [o, t, s] = &mut self.buffers;
+        let [out, table, places] =
+            [(o, lengths[0]), (t, lengths[1]), (s, lengths[2])].map(|(fence, n)| {
+                let part = fence.lend(n, at_end(random));
+                let start = random.below(self.noise.len() - n.min(self.noise.len()) + 1);
+                part.copy_from_slice(&self.noise[start..start + n]);
+                part
+            });
+        for (i, (file, path)) in files.iter().zip(&self.paths).enumerate() {
+            // SAFETY: the parts and the paths outlive the call below, after which nobody looks.
+            unsafe { keep_input(i as i32, file.as_ptr(), file.len(), path.as_ptr()) };
+        }
+        // SAFETY: it sets the system's alarm.
+        unsafe { calls_may_last(SECONDS) };
+        let outcome = draft_into(files[0], files[1], files[2], out, table, places);
+        // SAFETY: as above; 0 takes the alarm back.
+        unsafe { calls_may_last(0) };
+        checked(outcome, lengths, [out, table, places])
+    }
+}
+
+/// Zeros where document 01 asks for them, and an answer of its form.
+fn checked(
+    outcome: Outcome,
+    lengths: [usize; 3],
+    buffers: [&mut [u8]; 3],
+) -> Result<Verdict, String> {
+    let Outcome {
+        length,
+        number,
+        object,
+        place,
+    } = outcome;
+    let short = lengths[1] < BLOCK_TABLE || lengths[2] < PLACE_TABLE;
+    let written = length as usize;
+    let zero = |part: &[u8]| part.iter().all(|&b| b == 0);
+    let formed = match number {
+        0 => (object, place) == (0, 0) && written <= lengths[0] && !short,
+        1 => (object, place, length) == (0, 0, 0),
+        2..=6 => (object, length) == (1, 0) && !short,
+        7 => object == 0 && length == 0 && place > 0,
+        8 | 9 => (object, length) == (1, 0) && place < 1024,
+        21 => (object, length) == (0, 0) && place > lengths[0] as u64,
+        _ => false,
+    };
+    let [out, table, places] = buffers;
+    if !formed || short && number != 1 {
+        return Err(format!("{outcome:?} with lengths {lengths:?}"));
+    }
+    if written > out.len() || !zero(&out[written..]) || !zero(table) || !zero(places) {
+        return Err(format!("not zeroed: {outcome:?} with lengths {lengths:?}"));
+    }
+    Ok(match number {
+        0 => Verdict::Draft(out[..written].to_vec()),
+        21 => Verdict::Long(place),
+        _ => Verdict::Refused(Refusal {
+            number,
+            object,
+            place,
+        }),
+    })
+}
+
+/// A job made from others: damaged, changed byte by byte, or with files of two jobs.
+fn changed(random: &mut Random, kept: &[Job]) -> Job {
+    let mut job = random.pick(kept).clone();
+    let other = random.pick(kept);
+    for _ in 0..random.between(1, 5) {
+        match random.below(8) {
+            0 | 1 => damage_object(random, &mut job.compiled, &other.compiled),
+            2 | 3 => damage_lines(random, &mut job.blocks),
+            4 => change_bytes(random, &mut job.compiled),
+            5 => change_bytes(random, &mut job.blocks),
+            6 => change_bytes(random, &mut job.prelude),
+            _ => match random.below(3) {
+                0 => job.compiled.clone_from(&other.compiled),
+                1 => job.prelude.clone_from(&other.prelude),
+                _ => job.blocks.clone_from(&other.blocks),
+            },
+        }
+    }
+    for file in [&mut job.compiled, &mut job.prelude, &mut job.blocks] {
+        file.truncate(MOST);
+    }
+    job
+}
+
+/// Bytes set, taken out, put in, or copied from elsewhere in the file.
+fn change_bytes(random: &mut Random, file: &mut Vec<u8>) {
+    let at = random.below(file.len() + 1);
+    let n = random.below(16).min(file.len() - at);
+    match random.below(4) {
+        0 => random
+            .bytes(n)
+            .into_iter()
+            .zip(&mut file[at..])
+            .for_each(|(new, old)| *old = new),
+        1 => drop(file.drain(at..at + n)),
+        2 => {
+            let new = random.bytes(n);
+            drop(file.splice(at..at, new));
+        }
+        _ => {
+            let from = random.below(file.len() - n + 1);
+            let copy = file[from..from + n].to_vec();
+            drop(file.splice(at..at + random.below(n + 1), copy));
+        }
+    }
+}
+
+/// Fuzzes for some time; then the kept jobs are held against the Rust and the model.
+pub fn fuzz(seed: u64, time: Duration, folder: &Path, others: &mut Others) -> io::Result<bool> {
+    let blocks = trace::start()?;
+    // SAFETY: it sets handlers for signals that end this process otherwise.
+    unsafe { watch_calls() };
+    let mut target = Target::new(seed, folder)?;
+    let random = &mut Random::new(seed, 1);
+    let (mut kept, mut calls, mut hits) = (vec![], 0u64, 0);
+    let (start, mut last, mut report) = (Instant::now(), 0.0, 1);
+    while start.elapsed() < time {
+        let new = match kept.is_empty() || random.once_in(20) {
+            true => job(seed, calls),
+            false => changed(random, &kept),
+        };
+        if let Err(words) = target.call(random, &new) {
+            println!("WRONG after {calls} calls: {words}");
+            for (path, bytes) in target
+                .paths
+                .iter()
+                .zip([&new.compiled, &new.prelude, &new.blocks])
+            {
+                fs::write(&*path.to_string_lossy(), bytes)?;
+            }
+            return Ok(false);
+        }
+        calls += 1;
+        if trace::hits() > hits {
+            (hits, last) = (trace::hits(), start.elapsed().as_secs_f64());
+            kept.push(new);
+        }
+        if start.elapsed().as_secs() >= report * 300 {
+            println!(
+                "{:>6} s: {calls} calls, {hits} of {blocks} blocks",
+                report * 300
+            );
+            report += 1;
+        }
+    }
+    println!(
+        "seed {seed}: {calls} calls in {} seconds, none died, none passed {SECONDS} seconds",
+        time.as_secs()
+    );
+    println!(
+        "{hits} of {blocks} blocks of the archive's code reached, the last after {last:.0} seconds, by {} jobs",
+        kept.len()
+    );
+    again(&mut target, random, kept, others)
+}
+
+/// The kept jobs once more, against the others that are there.
+fn again(
+    target: &mut Target,
+    random: &mut Random,
+    kept: Vec<Job>,
+    others: &mut Others,
+) -> io::Result<bool> {
+    let (mut tally, mut found, mut batch) = (Default::default(), vec![], vec![]);
+    for (i, job) in (0..).zip(kept) {
+        // Until the buffers are long enough for an answer that does not speak of them.
+        let verdict = (0..1000).find_map(|_| match target.call(random, &job) {
+            Ok(Verdict::Refused(Refusal { number: 1, .. })) if job.compiled.len() <= 1 << 20 => {
+                None
+            }
+            Ok(Verdict::Long(n)) if n < 110_000 => None,
+            other => Some(other),
+        });
+        match verdict {
+            Some(Ok(Verdict::Long(_))) | None => (),
+            Some(Ok(verdict)) => batch.push((i, job, verdict)),
+            Some(Err(words)) => return Err(io::Error::other(words)),
+        }
+    }
+    held_against(others, &batch, &mut tally, &mut found)?;
+    for difference in &found {
+        println!(
+            "DIFFERENCE kept job {}: {}",
+            difference.index, difference.words
+        );
+    }
+    println!(
+        "{} of the kept jobs held against the Rust and the model, {} differences",
+        batch.len(),
+        found.len()
+    );
+    Ok(found.is_empty())
+}

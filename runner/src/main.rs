@@ -1,0 +1,200 @@
+//! See README.md.
+
+mod blocks;
+mod compare;
+mod damage;
+mod differences;
+mod fence;
+mod fuzz;
+mod job;
+mod object;
+mod port;
+mod random;
+mod served;
+mod speed;
+mod trace;
+
+use compare::{BATCH, Others, Run, compare};
+use served::{Model, Rust};
+use std::{
+    env, fs,
+    io::{self, ErrorKind},
+    path::{Path, PathBuf},
+    process::ExitCode,
+    time::{Duration, Instant},
+};
+
+const USAGE: &str = "usage: runner compare SEED JOBS [SECONDS]
+       runner record SEED JOBS FILE
+       runner replay FILE [SECONDS]
+       runner fuzz SEED SECONDS FOLDER
+       runner speed ROUNDS
+       runner job SEED INDEX FOLDER";
+
+fn main() -> ExitCode {
+    let arguments: Vec<String> = env::args().skip(1).collect();
+    let words: Vec<&str> = arguments.iter().map(String::as_str).collect();
+    command(&words).unwrap_or_else(|error| {
+        eprintln!("runner: {error}");
+        ExitCode::from(2)
+    })
+}
+
+fn command(words: &[&str]) -> io::Result<ExitCode> {
+    match *words {
+        ["compare", seed, jobs] => run(number(seed)?, number(jobs)?, None, None),
+        ["compare", seed, jobs, seconds] => {
+            let time = Duration::from_secs(number(seconds)?);
+            run(number(seed)?, number(jobs)?, Some(time), None)
+        }
+        ["record", seed, jobs, file] => run(number(seed)?, number(jobs)?, None, Some(file)),
+        ["replay", file] => replay(file, None),
+        ["replay", file, seconds] => replay(file, Some(Duration::from_secs(number(seconds)?))),
+        ["fuzz", seed, seconds, folder] => {
+            let time = Duration::from_secs(number(seconds)?);
+            let sound = fuzz::fuzz(number(seed)?, time, Path::new(folder), &mut others()?)?;
+            Ok(if sound {
+                ExitCode::SUCCESS
+            } else {
+                ExitCode::FAILURE
+            })
+        }
+        ["speed", rounds] => match oracle::MISSING {
+            Some(reason) => Err(io::Error::other(reason)),
+            None => speed::speed(number(rounds)? as usize).map(|()| ExitCode::SUCCESS),
+        },
+        ["job", seed, index, folder] => {
+            let job = job::job(number(seed)?, number(index)?);
+            fs::create_dir_all(folder)?;
+            for (name, bytes) in [
+                ("c.o", job.compiled),
+                ("prelude", job.prelude),
+                ("blocks", job.blocks),
+            ] {
+                fs::write(Path::new(folder).join(name), bytes)?;
+            }
+            Ok(ExitCode::SUCCESS)
+        }
+        _ => Err(io::Error::new(ErrorKind::InvalidInput, USAGE)),
+    }
+}
+
+fn number(word: &str) -> io::Result<u64> {
+    word.parse().map_err(|_| {
+        io::Error::new(
+            ErrorKind::InvalidInput,
+            format!("no number: {word}\n{USAGE}"),
+        )
+    })
+}
+
+/// Starts the Rust and the model, and says what is not there.
+fn others() -> io::Result<Others> {
+    let top = Path::new(env!("CARGO_MANIFEST_DIR"));
+    let oracle = top.join("../oracle/target/release/oracle");
+    let rust = match oracle::MISSING {
+        Some(reason) => {
+            println!("The Rust is not asked: {reason}");
+            None
+        }
+        None if !oracle.exists() => {
+            println!("The Rust is not asked: build it with `cargo build --release` in oracle/.");
+            None
+        }
+        None => Some(Rust::start(&oracle)?),
+    };
+    let model = env::var_os("MODEL").map_or_else(|| top.join("../../shared/model"), PathBuf::from);
+    let model = match model.join("model.py").exists() {
+        true => Some(Model::start(&top.join("model.py"), &model)?),
+        false => {
+            println!("The model is not asked: MODEL names no folder with model.py.");
+            None
+        }
+    };
+    Ok(Others { rust, model })
+}
+
+fn run(seed: u64, jobs: u64, time: Option<Duration>, record: Option<&str>) -> io::Result<ExitCode> {
+    let mut others = others()?;
+    let start = Instant::now();
+    println!("seed {seed}, {jobs} jobs");
+    let (tally, found) = compare(
+        &Run {
+            seed,
+            first: 0,
+            jobs,
+            time,
+        },
+        &mut others,
+    )?;
+    print!("{tally}");
+    println!("{:>9.1} seconds", start.elapsed().as_secs_f64());
+    for difference in &found {
+        println!(
+            "DIFFERENCE seed {seed} job {}: {}",
+            difference.index, difference.words
+        );
+    }
+    println!("{} differences off the list", found.len());
+    if !found.is_empty() {
+        return Ok(ExitCode::FAILURE);
+    }
+    if let Some(file) = record {
+        if others.rust.is_none() || others.model.is_none() {
+            return Err(io::Error::other(
+                "a list is recorded only with the Rust and the model",
+            ));
+        }
+        let lines = (0u64..).zip(&tally.digests);
+        let lines = lines.map(|(i, digest)| format!("{seed} {} {digest:016x}\n", i * BATCH));
+        fs::write(file, lines.collect::<String>())?;
+    }
+    Ok(ExitCode::SUCCESS)
+}
+
+/// Runs the jobs of a list again, against those of the others that are there, and against the
+/// list's own digests, which stand for both.
+fn replay(file: &str, time: Option<Duration>) -> io::Result<ExitCode> {
+    let mut others = others()?;
+    let start = Instant::now();
+    let (mut jobs, mut wrong) = (0, 0);
+    for line in fs::read_to_string(file)?.lines() {
+        if time.is_some_and(|time| start.elapsed() > time) {
+            println!("The time is over; the rest of the list is left out.");
+            break;
+        }
+        let [seed, first, digest] = line.split(' ').collect::<Vec<_>>()[..] else {
+            return Err(io::Error::other(format!("no line of a list: {line}")));
+        };
+        let (seed, first) = (number(seed)?, number(first)?);
+        let whole = Run {
+            seed,
+            first,
+            jobs: BATCH,
+            time: None,
+        };
+        let (tally, found) = compare(&whole, &mut others)?;
+        for difference in &found {
+            println!(
+                "DIFFERENCE seed {seed} job {}: {}",
+                difference.index, difference.words
+            );
+        }
+        let same = tally
+            .digests
+            .iter()
+            .map(|d| format!("{d:016x}"))
+            .eq([digest.to_string()]);
+        if !same {
+            println!("DIFFERENCE seed {seed} jobs from {first}: the answers are not the list's");
+        }
+        jobs += tally.jobs;
+        wrong += found.len() + usize::from(!same);
+    }
+    let seconds = start.elapsed().as_secs_f64();
+    println!("{jobs} jobs of the list in {seconds:.1} seconds, {wrong} differences");
+    match wrong {
+        0 if jobs > 0 => Ok(ExitCode::SUCCESS),
+        _ => Ok(ExitCode::FAILURE),
+    }
+}
