@@ -48,28 +48,26 @@ nop
 '''
 
 
-def run(*words):
-    subprocess.run(words, check=True)
-
-
 def real_objects():
     """{name: bytes} of objects that a toolchain made"""
     out = {}
     with tempfile.TemporaryDirectory() as d:
-        c, s = os.path.join(d, 'in.c'), os.path.join(d, 'in.s')
-        open(c, 'w').write(C_SOURCE), open(s, 'w').write(ASM_SOURCE)
-        base = ['mips-linux-gnu-gcc', '-O1', '-ffreestanding', '-fno-asynchronous-unwind-tables', '-c', c, '-o', os.path.join(d, 'o')]
+        for source, content in (('in.c', C_SOURCE), ('in.s', ASM_SOURCE)):
+            with open(os.path.join(d, source), 'w') as f:
+                f.write(content)
+        # Names without a folder: debug sections store them, and the same source makes the same object.
+        base = ['mips-linux-gnu-gcc', '-O1', '-ffreestanding', '-fno-asynchronous-unwind-tables', '-fdebug-prefix-map=' + d + '=', '-c', 'in.c', '-o', 'o']
         jobs = {
             'o32': base + ['-mabi=32', '-mno-abicalls', '-fno-pic', '-G0'],
             'o32_pic': base + ['-mabi=32', '-fPIC'],
             'n32': base + ['-mabi=n32', '-mno-abicalls', '-fno-pic', '-G0'],
             'o32_debug': base + ['-mabi=32', '-mno-abicalls', '-fno-pic', '-G0', '-g'],
             'o32_little': base + ['-mabi=32', '-mno-abicalls', '-fno-pic', '-G0', '-EL'],
-            'gas': ['mips-linux-gnu-as', '-32', '-EB', '-o', os.path.join(d, 'o'), s],
-            'gas_mdebug': ['mips-linux-gnu-as', '-32', '-EB', '-mdebug', '-o', os.path.join(d, 'o'), s],
+            'gas': ['mips-linux-gnu-as', '-32', '-EB', '-o', 'o', 'in.s'],
+            'gas_mdebug': ['mips-linux-gnu-as', '-32', '-EB', '-mdebug', '-o', 'o', 'in.s'],
         }
         for name, words in jobs.items():
-            run(*words)
+            subprocess.run(words, check=True, cwd=d)
             out[name] = open(os.path.join(d, 'o'), 'rb').read()
     return out
 

@@ -2,7 +2,6 @@
 """Makes the jobs that the programs draft and draft_jobs run, and what they must print.
 
   tools/draft_jobs.py            writes crates/draft/{data/draft.case,args,stdout} and crates/draft_jobs/{data/jobs,args,stdout}
-  tools/draft_jobs.py FOLDER     writes the cases for tools/draft_speed.py: small.case, middle.case and large.case
 
 Compiled objects are real ones (Debian's gcc-mips-linux-gnu) or made here. Refusals come from the model of document 01 (MODEL, by default
 ../shared/model). Accepted drafts come from the unchanged Rust where the oracle is built (oracle/target/release/oracle), and the model must agree with it;
@@ -211,23 +210,11 @@ def answer(job, counts):
     return got
 
 
-def speed_cases():
-    """(name, compiled object, block file): 10 blocks and 40 symbols; 128 and 512; 1,024 and 4,096 with a block file near the limit"""
-    for name, count, symbols, lines in (('small', 10, 40, 4), ('middle', 128, 512, 43), ('large', 1024, 4096, 43)):
-        labels = [b'_asmpp_label_%d' % k for k in range(symbols - 1)]
-        spans = [b'%s 4 0' % labels[k * (symbols - 1) // count] for k in range(count)]
-        yield name, compiled([(label, 4 * k, 1, 0) for k, label in enumerate(labels)]), b''.join(block(text=s, asm=[b'lw $t0, 0x10($sp)'] * lines) for s in spans)
-
-
 def case(c, prelude, blocks):
     return struct.pack('>III', len(c), len(prelude), len(blocks)) + c + prelude + blocks
 
 
 def main():
-    if len(sys.argv) > 1:
-        for name, c, blocks in speed_cases():
-            open(os.path.join(sys.argv[1], name + '.case'), 'wb').write(case(c, b'.set noat', blocks))
-        return
     counts = dict(accepted=0, refused=0, rust=0)
     jobs = [*written_jobs(), *grammar_jobs(), *wide_jobs(), *object_jobs(), *random_jobs(60, 7)]
     data, out = b'', b''
