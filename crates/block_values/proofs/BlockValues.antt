@@ -24,16 +24,6 @@ use Rattle.blocks.proofs.Blocks.{counted-key, counted-jumps}
 use Rattle.places.specs.Spans.{taken}
 use Rattle.block_values.specs.BlockValues.{hexDigit, hexFrom, hexadecimal, dummy, jumpTable, sized}
 
--- ---- a line is its key and its value
-
-module _ (B : List ℕ) (k a : ℕ) (s : List ℕ) (n : ℕ) (is : s ≡ line B a) (key : n ≡ length (keyName k)) where
-  pub value-fits : isKeyLine B k a ≡ true → n ≤ length s
-  value-fits t = rw (key, is, key-line-text B k a t, length-append) (omega arith)
-
-  pub value-part : take (length s - n) (drop n s) ≡ valueAt B k a
-  unfolding valueAt
-  value-part = tail-part s n ∙ rw (key, is)
-
 -- ---- hex digits
 
 module _ (x : ℕ) (t : isHexDigit x ≡ true) where

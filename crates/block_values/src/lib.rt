@@ -5,7 +5,7 @@ ghost use mathlib.Core.Path.{_≡_};
 ghost use mathlib.Core.Bool.{true};
 ghost use Prim.Native.Nat.{_≤_, _<_};
 ghost use Rattle.lines.specs.Values.{isHexDigit, dummySound};
-ghost use Rattle.lines.specs.Keys.{isKeyLine, valueAt};
+ghost use Rattle.lines.specs.Keys.{isKeyLine};
 ghost use Rattle.blocks.specs.Blocks.{blockCount};
 ghost use Rattle.blocks.specs.Table.{Parsed};
 ghost use Rattle.places.specs.Walk.{Walked};
@@ -17,16 +17,6 @@ pub const GLABEL: u32 = 5;
 pub const DUMMY: u32 = 6;
 
 pub const JUMP_TABLE: u32 = 7;
-
-// What stands behind key k in the line at `at`, as a part of the block file.
-pub fn value_at<'a>(file: &'a [u8], k: u32, at: usize) -> &'a [u8]
-    requires { ⌜ (k < 11) × (isKeyLine (now file) k at ≡ true) ⌝ }
-    ensures { λ r. ⌜ now r ≡ valueAt (now (file .entry)) k at ⌝ }
-{
-    let line = lines::line_at(file, at);
-    let n = lines::key_length(k);
-    &line[n..]
-}
 
 // The number of a lowercase hex digit.
 fn hex_digit(x: u8) -> u32
@@ -58,7 +48,7 @@ pub fn dummy_at(file: &[u8], at: usize) -> u32
     requires { ⌜ isKeyLine (now file) 6 at ≡ true ⌝ }
     ensures { λ r. ⌜ r ≡ dummy (now (file .entry)) at ⌝ }
 {
-    hex_of(value_at(file, DUMMY, at))
+    hex_of(lines::value_at(file, DUMMY, at))
 }
 
 // The bytes of block i's jump table.
@@ -67,7 +57,7 @@ pub fn jump_table(file: &[u8], table: &[u8], i: usize) -> usize
     ensures { λ r. ⌜ (r ≡ jumpTable (now (file .entry)) i) × (r ≤ 1048576) ⌝ }
 {
     let at = blocks::group_start(file, table, i, 7);
-    lines::decimal_of(value_at(file, JUMP_TABLE, at))
+    lines::decimal_of(lines::value_at(file, JUMP_TABLE, at))
 }
 
 // Whether block i gives its first glabel a size, which is `places::span_size` of its line `text=`.

@@ -150,18 +150,11 @@ module _ (B : List ℕ) (k : ℕ) where
   value-short a u t =
       omega (arith, length-lined (valueAt B k a), key-line-long a t, line-length B a (omega (arith, key-line-inside a t)), end-low B a, key-four k u)
 
-  -- the part of a line behind its key: s is the line, n the key's length
-  pub value-part : (a : ℕ) (s : List ℕ) (n : ℕ) → s ≡ line B a → n ≡ length (keyName k) → take (length s - n) (drop n s) ≡ valueAt B k a
-  unfolding valueAt
-  value-part a s n e f = rw (e, f) (tail-part (line B a) (length (keyName k)))
-
-  -- such a part starts within the line, and with its LF it is no longer than what is left of the file
-  pub value-fits : (a : ℕ) (s : List ℕ) (n : ℕ) → s ≡ line B a → n ≡ length (keyName k) → k < 11 → isKeyLine B k a ≡ true
-      → (n ≤ length s) × (length (take (length s - n) (drop n s)) + 1 + a ≤ length B)
-  value-fits a s n e f u t =
+  -- a value and its LF are no longer than what is left of the file
+  pub value-fits : (a : ℕ) → k < 11 → isKeyLine B k a ≡ true → length (valueAt B k a) + 1 + a ≤ length B
+  value-fits a u t =
       let i : next B a ≤ length B = next-high B a (key-line-whole B k a t) in
-      let long : length (valueAt B k a) + 1 + a ≤ length B = omega (arith, i, value-short a u t, length-lined (valueAt B k a)) in
-      (rw (e, f) (omega (arith, key-line-long a t)), rw (value-part a s n e f) long)
+      omega (arith, i, value-short a u t, length-lined (valueAt B k a))
 
   from-more : (m a : ℕ) → length B ≤ a + m → linesFrom B k a (suc m) ≡ linesFrom B k a m
   unfolding linesFrom

@@ -120,9 +120,7 @@ fn append_value(out: &mut [u8], at: u64, file: &[u8], k: u32, from: usize) -> u6
     requires { ⌜ (at + length (now file) < 18446744073709551616 + from) × (k < 11) × (isKeyLine (now file) k from ≡ true) ⌝ }
     ensures { λ r. ⌜ Written (now (out .entry)) at (lined (valueAt (now (file .entry)) k from)) r (now (out .exit)) ⌝ }
 {
-    let line = lines::line_at(file, from);
-    let n = lines::key_length(k);
-    append_line(out, at, &line[n..])
+    append_line(out, at, lines::value_at(file, k, from))
 }
 
 // Appends the values of the lines of key k that stand at `from` of a block file, each as a line.

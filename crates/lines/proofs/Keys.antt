@@ -5,7 +5,7 @@ use mathlib.Core.Path.{_≡_, refl, sym, ap, _∙_}
 use mathlib.Core.Bool.{Bool, true, false, not, _&&_}
 use mathlib.Core.List.{List, _++_}
 use native.Mathlib.Omega.{arith}
-use lib.ListN.{length, take, drop}
+use lib.ListN.{length, take, drop, length-append}
 use lib.Seq.{take-append-le}
 use lib.Dec.{eqb, leb}
 use borrow.Author.Tests.{eqb-true, leb-true, not-false}
@@ -120,3 +120,13 @@ module _ (B : List ℕ) (k a : ℕ) (t : isKeyLine B k a ≡ true) where
 
 pub key-once : (B : List ℕ) (j k a : ℕ) → j < 11 → k < 11 → isKeyLine B j a ≡ true → isKeyLine B k a ≡ true → j ≡ k
 key-once B j k a h u s t = sym (key-line-key B j a s h) ∙ key-line-key B k a t u
+
+-- ---- the part of a line behind its key: s is the line, n the key's length
+
+module _ (B : List ℕ) (k a : ℕ) (s : List ℕ) (n : ℕ) (is : s ≡ line B a) (key : n ≡ length (keyName k)) where
+  pub value-fits : isKeyLine B k a ≡ true → n ≤ length s
+  value-fits t = rw (key, is, key-line-text B k a t, length-append) (omega arith)
+
+  pub value-part : take (length s - n) (drop n s) ≡ valueAt B k a
+  unfolding valueAt
+  value-part = tail-part s n ∙ rw (key, is)

@@ -6,7 +6,7 @@ ghost use lib.ListN.{length, take, drop};
 ghost use Rattle.lists.specs.Strings.{prefixed};
 ghost use Rattle.lines.specs.Lines.{lineEnd, line, lineNumber};
 ghost use Rattle.lines.specs.Values.{every, isDigit, isHexDigit, decimal, isNumber, numberSound, spaceIn, labelSound, labelIn, afterLabel, sizeIn, alignIn, spanSound, sectionSound, dummySound};
-ghost use Rattle.lines.specs.Keys.{keyName, repeats, valueSound, isKeyLine};
+ghost use Rattle.lines.specs.Keys.{keyName, repeats, valueSound, isKeyLine, valueAt};
 
 // Where the line at `at` ends: its LF, or the end of the file.
 pub fn line_end(file: &[u8], at: usize) -> usize
@@ -313,4 +313,14 @@ pub fn is_key_line(file: &[u8], k: u32, at: usize) -> bool
         return is_key_sound(k, &file[at..e]);
     }
     false
+}
+
+// What stands behind key k in the line at `at`, as a part of the block file.
+pub fn value_at<'a>(file: &'a [u8], k: u32, at: usize) -> &'a [u8]
+    requires { ⌜ (k < 11) × (isKeyLine (now file) k at ≡ true) ⌝ }
+    ensures { λ r. ⌜ now r ≡ valueAt (now (file .entry)) k at ⌝ }
+{
+    let line = line_at(file, at);
+    let n = key_length(k);
+    &line[n..]
 }

@@ -21,7 +21,7 @@ use Rattle.scope.specs.Limits.{FILE_LIMIT}
 use Rattle.symbols.specs.Symbols.{symbolCount, symbolPlace, symbol, symbolNamed}
 use Rattle.lines.specs.Lines.{line}
 use Rattle.lines.specs.Values.{every, isDigit, decimal, labelIn, sizeIn, alignIn, ALIGN8_LIMIT, sectionSound}
-use Rattle.lines.specs.Keys.{keyName, valueAt}
+use Rattle.lines.specs.Keys.{isKeyLine, valueAt}
 use Rattle.lines.proofs.Values.{Parts, tail-part, section-span, sound-span}
 use Rattle.lines.proofs.Keys.{repeats-low, key-line-text}
 use Rattle.blocks.specs.Blocks.{groupAt, blockAt, blockCount}
@@ -45,21 +45,15 @@ span-code-high j = omega arith
 -- ---- what a line holds
 
 module _ (B : List ℕ) where
-  pub span-text : (j : ℕ) → j < 4 * blockCount B
-      → line B (groupAt B (blockAt B (j / 4)) (j % 4 + 1)) ≡ keyName (j % 4 + 1) ++ valueAt B (j % 4 + 1) (groupAt B (blockAt B (j / 4)) (j % 4 + 1))
-  span-text j h =
+  -- the line of a span is one of its key
+  pub span-key : (j a : ℕ) → a ≡ groupAt B (blockAt B (j / 4)) (j % 4 + 1) → j < 4 * blockCount B → isKeyLine B (j % 4 + 1) a ≡ true
+  span-key j a start h =
       let k : j % 4 + 1 < 5 = omega arith in
-      key-line-text B (j % 4 + 1) (groupAt B (blockAt B (j / 4)) (j % 4 + 1))
-      (counted-key B (j / 4) (j % 4 + 1) (omega arith) (omega arith) (repeats-low (j % 4 + 1) k))
+      rw start (counted-key B (j / 4) (j % 4 + 1) (omega arith) (omega arith) (repeats-low (j % 4 + 1) k))
 
-  -- the line in hand, and its key's length
-  module _ (j a n : ℕ) (l : List ℕ) (start : a ≡ groupAt B (blockAt B (j / 4)) (j % 4 + 1)) (is : l ≡ line B a) (key : n ≡ length (keyName (j % 4 + 1))) where
-    pub value-fits : j < 4 * blockCount B → n ≤ length l
-    value-fits h = rw (key, is, start, span-text j h, length-append) (omega arith)
-
-    pub value-read : take (length l - n) (drop n l) ≡ spanValue B j
-    unfolding spanValue spanBlock spanCode valueAt
-    value-read = tail-part l n ∙ rw (key, is, start)
+  pub value-read : (j a : ℕ) → a ≡ groupAt B (blockAt B (j / 4)) (j % 4 + 1) → valueAt B (j % 4 + 1) a ≡ spanValue B j
+  unfolding spanValue spanBlock spanCode
+  value-read j a start = rw start
 
   pub span-section : (j : ℕ) → j < 4 * blockCount B → sectionSound (spanValue B j) ≡ true
   unfolding spanValue

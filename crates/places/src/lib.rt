@@ -31,9 +31,7 @@ pub fn span_value<'a>(file: &'a [u8], table: &[u8], j: usize) -> &'a [u8]
 {
     let k = j % 4 + 1;
     let at = blocks::group_start(file, table, j / 4, k);
-    let line = lines::line_at(file, at);
-    let n = lines::key_length(k as u32);
-    &line[n..]
+    lines::value_at(file, k as u32, at)
 }
 
 // The label of line j, as a part of the block file.

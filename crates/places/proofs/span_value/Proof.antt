@@ -1,7 +1,7 @@
--- `places::span_value` meets its contract: the line that the table says begins with its key, so the key's bytes lie in it, and what stands behind
--- them is the value. Assumes nothing.
-use Rattle.places.proofs.Spans.{value-fits, value-read}
+-- `places::span_value` meets its contract: the line that the table says is one of its key, and its value is what the call hands back. Assumes nothing.
+use Rattle.places.proofs.Spans.{span-key, value-read}
 use native.Mathlib.Omega.{arith}
+use mathlib.Core.Path.{_∙_}
 use denote.Ref.{now}
 use borrow.Author.Needs.{needs}
 use Rattle.places.proofs.span_value.Statement.{statement}
@@ -13,54 +13,20 @@ add-k c = search needs
 group-start-requires : tie.Need-group-start-requires
 group-start-requires c κs = search needs
 
-line-at-requires : tie.Need-line-at-requires
-line-at-requires c κs = search needs
+cast-value-at : tie.Need-cast-value-at
+cast-value-at c = search needs
 
-cast-key-length : tie.Need-cast-key-length
-cast-key-length c = search needs
-
-key-length-requires : tie.Need-key-length-requires
-key-length-requires c κs = search needs
-
-sub-result : tie.Need-sub-result
-sub-result c =
-    let a = c .before .before .before .before .before .args in
-    let s = c .before .before .group-start in
-    let l = c .before .line-at in
-    let k = c .key-length in
-    let f = value-fits (now (a .file)) (a .j) (s .result) (k .result) (now (l .result)) (s .ensures) (l .ensures) (k .ensures) (c .before .before .before .before .before .pre .1) in
-    omega arith
-
-part-result-start : tie.Need-part-result-start
-part-result-start c =
-    let a = c .before .before .before .before .before .args in
-    let s = c .before .before .group-start in
-    let l = c .before .line-at in
-    let k = c .key-length in
-    let f = value-fits (now (a .file)) (a .j) (s .result) (k .result) (now (l .result)) (s .ensures) (l .ensures) (k .ensures) (c .before .before .before .before .before .pre .1) in
-    omega arith
-
-part-result-end : tie.Need-part-result-end
-part-result-end c = search needs
+value-at-requires : tie.Need-value-at-requires
+value-at-requires c κs =
+    let a = c .before .before .before .args in
+    let s = c .group-start in
+    (omega arith, span-key (now (a .file)) (a .j) (s .result) (s .ensures) (c .before .before .before .pre .1))
 
 returns : tie.Need-returns
 returns c =
-    let a = c .before .before .before .before .before .before .args in
-    let s = c .before .before .before .group-start in
-    let l = c .before .before .line-at in
-    let k = c .before .key-length in
-    value-read (now (a .file)) (a .j) (s .result) (k .result) (now (l .result)) (s .ensures) (l .ensures) (k .ensures)
+    let a = c .before .before .before .before .args in
+    let s = c .before .group-start in
+    c .value-at .ensures ∙ value-read (now (a .file)) (a .j) (s .result) (s .ensures)
 
 pub span-value-spec : {M : Type 1} → statement M
-span-value-spec =
-    tie.close
-    (tie.spec
-    add-k
-    group-start-requires
-    line-at-requires
-    cast-key-length
-    key-length-requires
-    sub-result
-    part-result-start
-    part-result-end
-    returns)
+span-value-spec = tie.close (tie.spec add-k group-start-requires cast-value-at value-at-requires returns)

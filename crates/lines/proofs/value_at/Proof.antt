@@ -1,11 +1,11 @@
--- `block_values::value_at` meets its contract: the line begins with its key, so the key's bytes lie in it, and what stands behind them is the value.
+-- `lines::value_at` meets its contract: the line begins with its key, so the key's bytes lie in it, and what stands behind them is the value.
 -- Assumes nothing.
-use Rattle.block_values.proofs.BlockValues.{value-fits, value-part}
+use Rattle.lines.proofs.Keys.{value-fits, value-part}
 use native.Mathlib.Omega.{arith}
 use denote.Ref.{now}
 use borrow.Author.Needs.{needs}
-use Rattle.block_values.proofs.value_at.Statement.{statement}
-use Rattle.block_values.proofs.value_at.Tie as tie
+use Rattle.lines.proofs.value_at.Statement.{statement}
+use Rattle.lines.proofs.value_at.Tie as tie
 
 line-at-requires : tie.Need-line-at-requires
 line-at-requires c κs = search needs
