@@ -66,8 +66,10 @@ pub enum RustAnswer {
 pub struct Rust(Server);
 
 impl Rust {
+    /// What it prints of jobs that pass its memory is their answer, too, and not shown.
     pub fn start(oracle: &Path) -> io::Result<Rust> {
-        Server::start(Command::new(oracle).arg("serve")).map(Rust)
+        let mut command = Command::new(oracle);
+        Server::start(command.arg("serve").stderr(Stdio::null())).map(Rust)
     }
 
     pub fn draft(&mut self, job: &Job) -> io::Result<RustAnswer> {
