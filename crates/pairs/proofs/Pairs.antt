@@ -1,8 +1,14 @@
 -- Document 01, "Known pairs": those with a star, each by computing the definition that it speaks of. The table grows with the stages.
+use Prim.Native.Nat.{ℕ}
 use mathlib.Core.Path.{_≡_, refl}
 use mathlib.Core.Bool.{true, false}
+use mathlib.Core.List.{List, [], _∷_}
+use Rattle.lists.specs.Ranges.{firstFrom}
+use Rattle.fields.specs.declared.ByteOrder.the-variants.{Big}
+use Rattle.fields.specs.Numbers.{number, turned, magnitude}
 use Rattle.packed.specs.Packed.{symbolOf, kindOf, relocationInfo, shifted}
 use Rattle.places.specs.Step.{oddPlace}
+use Rattle.dummies.specs.Dummies.{wordAt, found, shifts, placed}
 
 -- r_info 00000304 hex: symbol 3, kind 4
 pub info-symbol : symbolOf 0x00000304 ≡ 3
@@ -31,3 +37,35 @@ twelve-eight = refl
 pub sixteen-eight : oddPlace 16 8 ≡ false
 unfolding oddPlace
 sixteen-eight = refl
+
+-- .rodata 00 E0 12 34 56 E0 12 34 56, dummy E0123456: from 0 at 1, from 2 at 5
+abbrev pub twice : List ℕ
+twice = 0x00 ∷ 0xE0 ∷ 0x12 ∷ 0x34 ∷ 0x56 ∷ 0xE0 ∷ 0x12 ∷ 0x34 ∷ 0x56 ∷ []
+
+pub dummy-from-0 : found Big twice 0 0xE0123456 ≡ 1
+unfolding found wordAt firstFrom number turned magnitude
+dummy-from-0 = refl
+
+pub dummy-from-2 : found Big twice 2 0xE0123456 ≡ 5
+unfolding found wordAt firstFrom number turned magnitude
+dummy-from-2 = refl
+
+-- .rodata E0123456 00000000 E0123457, two dummies: 4 and 8, word 0 zero; one dummy: 0
+abbrev pub padded : List ℕ
+padded = 0xE0 ∷ 0x12 ∷ 0x34 ∷ 0x56 ∷ 0 ∷ 0 ∷ 0 ∷ 0 ∷ 0xE0 ∷ 0x12 ∷ 0x34 ∷ 0x57 ∷ []
+
+pub first-of-two : placed Big padded true 0 0xE0123456 ≡ 4
+unfolding placed shifts found wordAt firstFrom number turned magnitude
+first-of-two = refl
+
+pub first-shifts : shifts Big padded true 0 0xE0123456 ≡ true
+unfolding shifts found wordAt firstFrom number turned magnitude
+first-shifts = refl
+
+pub second-of-two : placed Big padded false 8 0xE0123457 ≡ 8
+unfolding placed shifts found wordAt firstFrom number turned magnitude
+second-of-two = refl
+
+pub one-dummy : placed Big padded false 0 0xE0123456 ≡ 0
+unfolding placed shifts found wordAt firstFrom number turned magnitude
+one-dummy = refl
