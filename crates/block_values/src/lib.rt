@@ -1,6 +1,6 @@
 // What the merge reads of a block beside its spans: the values of its lines, its dummies, its jump table, and whether its first glabel has a size. Each
-// function equals its definition in specs/. The lines of one key stand together, so the glabels and the dummies of a block are read from
-// `blocks::group_start` on, line by line, while `lines::is_key_line` holds.
+// function equals its definition in specs/. The lines of one key stand together, so the glabels of a block are read from `blocks::group_start` on,
+// line by line, while `lines::is_key_line` holds; its dummies are numbered, for their lines have one length.
 ghost use mathlib.Core.Path.{_≡_};
 ghost use mathlib.Core.Bool.{true};
 ghost use Prim.Native.Nat.{_≤_, _<_};
@@ -9,7 +9,7 @@ ghost use Rattle.lines.specs.Keys.{isKeyLine, valueAt};
 ghost use Rattle.blocks.specs.Blocks.{blockCount};
 ghost use Rattle.blocks.specs.Table.{Parsed};
 ghost use Rattle.places.specs.Walk.{Walked};
-ghost use Rattle.block_values.specs.BlockValues.{hexDigit, hexadecimal, dummy, jumpTable, sized};
+ghost use Rattle.block_values.specs.BlockValues.{hexDigit, hexadecimal, dummy, dummyCount, dummyWord, jumpTable, sized};
 use fields::ByteOrder;
 
 pub const GLABEL: u32 = 5;
@@ -59,6 +59,23 @@ pub fn dummy_at(file: &[u8], at: usize) -> u32
     ensures { λ r. ⌜ r ≡ dummy (now (file .entry)) at ⌝ }
 {
     hex_of(value_at(file, DUMMY, at))
+}
+
+// How many dummies block i has.
+pub fn dummy_count(file: &[u8], table: &[u8], i: usize) -> usize
+    requires { ⌜ Parsed (now file) (now table) × (i < blockCount (now file)) ⌝ }
+    ensures { λ r. ⌜ (r ≡ dummyCount (now (file .entry)) i) × (r ≤ 69905) ⌝ }
+{
+    let start = blocks::group_start(file, table, i, 6);
+    (blocks::group_start(file, table, i, 7) - start) / 15
+}
+
+// The word of dummy k of block i.
+pub fn dummy_word(file: &[u8], table: &[u8], i: usize, k: usize) -> u32
+    requires { ⌜ Parsed (now file) (now table) × (i < blockCount (now file)) × (k < dummyCount (now file) i) ⌝ }
+    ensures { λ r. ⌜ r ≡ dummyWord (now (file .entry)) i k ⌝ }
+{
+    dummy_at(file, blocks::group_start(file, table, i, 6) + 15 * k)
 }
 
 // The bytes of block i's jump table.
