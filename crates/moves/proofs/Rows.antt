@@ -19,6 +19,9 @@ module _ (p : ℕ → ℕ → Bool) (m : ℕ → ℕ) where
   unfolding hasIndex indexIn
   index-none i none = le-ltb (first (p i) 0 (m i)) (m i) (omega (arith, first-none (p i) 0 (m i) (omega arith) (λ k l h. none k h)))
 
+  pub none-index : (i k : ℕ) → hasIndex p m i ≡ false → k < m i → p i k ≡ false
+  none-index i k f h = by-test (p i k) (λ t. both (index-yes i k h t) f) (λ g. g)
+
   pub index-hit : (i : ℕ) → hasIndex p m i ≡ true → (indexIn p m i < m i) × (p i (indexIn p m i) ≡ true)
   unfolding hasIndex indexIn
   index-hit i t = let h = ltb-true _ _ t in (h, first-is (p i) 0 (m i) (omega arith) .here h)
