@@ -7,7 +7,7 @@ ghost use Rattle.dummies.specs.Dummies.{wordAt, found};
 ghost use Rattle.dummies.specs.Spots.{shiftSpot, spot};
 use fields::ByteOrder;
 
-// Where a dummy's late word goes, or refusal 14.
+// A place in .rodata, or refusal 14.
 pub enum Spot {
     At(usize),
     Lost,

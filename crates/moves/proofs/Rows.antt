@@ -1,0 +1,60 @@
+-- The laws of a search over pairs: what it tells of the pair that it finds, and that it finds a pair that is the only one. Assumes nothing.
+use Prim.Native.Nat.{ℕ, _<_}
+use mathlib.Core.Path.{_≡_}
+use mathlib.Core.Bool.{Bool, true, false}
+use native.Mathlib.Omega.{arith}
+use borrow.Author.Tests.{lt-ltb, le-ltb, ltb-true}
+use Rattle.lists.specs.Ranges.{first}
+use Rattle.lists.proofs.Ranges.{by-test, both, first-is, first-to, first-none}
+use Rattle.moves.specs.Rows.{indexIn, hasIndex, rowIn, columnIn, hasRow}
+
+module _ (p : ℕ → ℕ → Bool) (m : ℕ → ℕ) where
+  -- ---- one row
+
+  pub index-yes : (i k : ℕ) → k < m i → p i k ≡ true → hasIndex p m i ≡ true
+  unfolding hasIndex indexIn
+  index-yes i k h t = lt-ltb (first (p i) 0 (m i)) (m i) (omega (arith, first-to (p i) 0 (m i) k (omega arith) h t))
+
+  pub index-none : (i : ℕ) → ((k : ℕ) → k < m i → p i k ≡ false) → hasIndex p m i ≡ false
+  unfolding hasIndex indexIn
+  index-none i none = le-ltb (first (p i) 0 (m i)) (m i) (omega (arith, first-none (p i) 0 (m i) (omega arith) (λ k l h. none k h)))
+
+  pub none-index : (i k : ℕ) → hasIndex p m i ≡ false → k < m i → p i k ≡ false
+  none-index i k f h = by-test (p i k) (λ t. both (index-yes i k h t) f) (λ g. g)
+
+  pub index-hit : (i : ℕ) → hasIndex p m i ≡ true → (indexIn p m i < m i) × (p i (indexIn p m i) ≡ true)
+  unfolding hasIndex indexIn
+  index-hit i t = let h = ltb-true _ _ t in (h, first-is (p i) 0 (m i) (omega arith) .here h)
+
+  -- ---- all rows
+
+  pub row-yes : (n i k : ℕ) → i < n → k < m i → p i k ≡ true → hasRow p m n ≡ true
+  unfolding hasRow rowIn
+  row-yes n i k h l t = lt-ltb (first (hasIndex p m) 0 n) n (omega (arith, first-to (hasIndex p m) 0 n i (omega arith) h (index-yes i k l t)))
+
+  pub row-none : (n : ℕ) → ((i k : ℕ) → i < n → k < m i → p i k ≡ false) → hasRow p m n ≡ false
+  unfolding hasRow rowIn
+  row-none n none = le-ltb (first (hasIndex p m) 0 n) n (omega (arith, first-none (hasIndex p m) 0 n (omega arith) (λ i l h. index-none i (λ k g. none i k h g))))
+
+  -- no pair passes where no row is found
+  pub none-row : (n i k : ℕ) → hasRow p m n ≡ false → i < n → k < m i → p i k ≡ false
+  none-row n i k f h l = by-test (p i k) (λ t. both (row-yes n i k h l t) f) (λ g. g)
+
+-- what is known of the pair that is found
+pub record Hit (p : ℕ → ℕ → Bool) (m : ℕ → ℕ) (n i k : ℕ) : Type 0 where
+  pub row : i < n
+  pub column : k < m i
+  pub passes : p i k ≡ true
+
+module _ (p : ℕ → ℕ → Bool) (m : ℕ → ℕ) (n : ℕ) where
+  pub row-hit : hasRow p m n ≡ true → Hit p m n (rowIn p m n) (columnIn p m n)
+  unfolding hasRow rowIn columnIn
+  row-hit t =
+      let h = ltb-true _ _ t in
+      let r = index-hit p m (rowIn p m n) (first-is (hasIndex p m) 0 n (omega arith) .here h) in
+      record { row = h; column = r .0; passes = r .1 }
+
+  -- a pair that passes is found where no other does
+  pub row-is : (i k : ℕ) → i < n → k < m i → p i k ≡ true → ((j l : ℕ) → Hit p m n j l → (j ≡ i) × (l ≡ k))
+      → (rowIn p m n ≡ i) × (columnIn p m n ≡ k)
+  row-is i k h l t only = only (rowIn p m n) (columnIn p m n) (row-hit (row-yes p m n i k h l t))

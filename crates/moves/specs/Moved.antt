@@ -1,0 +1,78 @@
+-- What the late step comes to: the place of a late offset, the words of jump tables, and the final bytes of .rodata. s is where A's late span starts,
+-- L are the bytes of A's .late_rodata.
+use Prim.Native.Nat.{ℕ, _+_, _-_, _%_}
+use mathlib.Core.Bool.{Bool, true, cond, _&&_}
+use mathlib.Core.List.{List}
+use lib.ListN.{length, getD}
+use lib.Dec.{eqb, leb, ltb}
+use Rattle.lists.specs.Ranges.{select}
+use Rattle.fields.specs.declared.ByteOrder.{ByteOrder}
+use Rattle.blocks.specs.Blocks.{blockCount}
+use Rattle.block_values.specs.BlockValues.{dummyCount}
+use Rattle.moves.specs.Rows.{rowIn, columnIn, hasRow}
+use Rattle.moves.specs.Moves.{items, itemLength, source, place, isShifted}
+
+-- x is one of the n bytes from a on
+unfoldable pub isIn : ℕ → ℕ → ℕ → Bool
+isIn a n x = leb a x && ltb x (a + n)
+
+-- x is one of them, and a word starts there: at every fourth byte, a last word that is cut short included
+unfoldable pub isWord : ℕ → ℕ → ℕ → Bool
+isWord a n x = isIn a n x && eqb ((x - a) % 4) 0
+
+module _ (o : ByteOrder) (C B : List ℕ) (s : ℕ) where
+  -- a word of item k of block i starts at late offset x
+  unfoldable pub starts : ℕ → ℕ → ℕ → Bool
+  starts x i k = isWord (source o C B s i k) (itemLength B i k) x
+
+  -- a word's offset moves to its place; other offsets are not moved
+  unfoldable pub isMoved : ℕ → Bool
+  isMoved x = hasRow (starts x) (items o C B) (blockCount B)
+
+  -- the block and the item of that word
+  unfoldable pub movedBlock : ℕ → ℕ
+  movedBlock x = rowIn (starts x) (items o C B) (blockCount B)
+
+  unfoldable pub movedItem : ℕ → ℕ
+  movedItem x = columnIn (starts x) (items o C B) (blockCount B)
+
+module _ (o : ByteOrder) (C B R : List ℕ) where
+  -- item k of block i is a jump table, and has a word at x of .rodata
+  unfoldable pub tableWord : ℕ → ℕ → ℕ → Bool
+  tableWord x i k = eqb k (dummyCount B i) && isWord (place o C B R i k) (itemLength B i k) x
+
+  unfoldable pub isJumpWord : ℕ → Bool
+  isJumpWord x = hasRow (tableWord x) (items o C B) (blockCount B)
+
+  -- item k of block i is moved over byte x of .rodata
+  unfoldable pub covers : ℕ → ℕ → ℕ → Bool
+  covers x i k = isIn (place o C B R i k) (itemLength B i k) x
+
+  -- byte x lies in the old word of item k of block i, a dummy that moved on by 4
+  unfoldable pub zeroes : ℕ → ℕ → ℕ → Bool
+  zeroes x i k = isShifted o C B R i k && isIn (place o C B R i k - 4) 4 x
+
+  module _ (s : ℕ) where
+    -- offset x of the late span, at item k of block i: its place
+    unfoldable pub placeOf : ℕ → ℕ → ℕ → ℕ
+    placeOf x i k = place o C B R i k + (x - source o C B s i k)
+
+    unfoldable pub movedPlace : ℕ → ℕ
+    movedPlace x = placeOf x (movedBlock o C B s x) (movedItem o C B s x)
+
+    -- byte x of .rodata, at item k of block i: its offset in A's late span
+    unfoldable pub offsetOf : ℕ → ℕ → ℕ → ℕ
+    offsetOf x i k = source o C B s i k + (x - place o C B R i k)
+
+    unfoldable pub coveredBy : ℕ → ℕ
+    coveredBy x = offsetOf x (rowIn (covers x) (items o C B) (blockCount B)) (columnIn (covers x) (items o C B) (blockCount B))
+
+    -- byte x of the final .rodata: inside a move A's, in a zeroed word 0, else as it was
+    unfoldable pub lateByte : List ℕ → ℕ → ℕ
+    lateByte L x =
+        cond (hasRow (covers x) (items o C B) (blockCount B))
+        (getD L (coveredBy x) 0)
+        (cond (hasRow (zeroes x) (items o C B) (blockCount B)) 0 (getD R x 0))
+
+    unfoldable pub lateRodata : List ℕ → List ℕ
+    lateRodata L = select (λ x. true) (lateByte L) (length R)
