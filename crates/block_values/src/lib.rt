@@ -68,23 +68,6 @@ pub fn dummy_word(file: &[u8], table: &[u8], i: usize, k: usize) -> u32
     dummy_at(file, blocks::group_start(file, table, i, 6) + 15 * k)
 }
 
-// How many dummies block i has.
-pub fn dummy_count(file: &[u8], table: &[u8], i: usize) -> usize
-    requires { ⌜ Parsed (now file) (now table) × (i < blockCount (now file)) ⌝ }
-    ensures { λ r. ⌜ (r ≡ dummyCount (now (file .entry)) i) × (r ≤ 69905) ⌝ }
-{
-    let start = blocks::group_start(file, table, i, 6);
-    (blocks::group_start(file, table, i, 7) - start) / 15
-}
-
-// The word of dummy k of block i.
-pub fn dummy_word(file: &[u8], table: &[u8], i: usize, k: usize) -> u32
-    requires { ⌜ Parsed (now file) (now table) × (i < blockCount (now file)) × (k < dummyCount (now file) i) ⌝ }
-    ensures { λ r. ⌜ r ≡ dummyWord (now (file .entry)) i k ⌝ }
-{
-    dummy_at(file, blocks::group_start(file, table, i, 6) + 15 * k)
-}
-
 // The bytes of block i's jump table.
 pub fn jump_table(file: &[u8], table: &[u8], i: usize) -> usize
     requires { ⌜ Parsed (now file) (now table) × (i < blockCount (now file)) ⌝ }
