@@ -67,19 +67,19 @@ module _ (o : ByteOrder) (C A B : List ℕ) (e : missing o C A B ≡ Nothing) wh
 -- ---- what a cause that does not hold tells
 
 module _ (o : ByteOrder) (F : List ℕ) (c : ℕ) where
-  has-there : hasCode o F c ≡ true → There o F c
+  pub has-there : hasCode o F c ≡ true → There o F c
   unfolding hasCode
   has-there t = ltb-true _ _ t
 
-  there-has : There o F c → hasCode o F c ≡ true
+  pub there-has : There o F c → hasCode o F c ≡ true
   unfolding hasCode
   there-has h = lt-ltb _ _ h
 
-  held-length : hasCode o F c ≡ true → heldBytes o F c ≡ length (coded o F c)
+  pub held-length : hasCode o F c ≡ true → heldBytes o F c ≡ length (coded o F c)
   unfolding heldBytes
   held-length t = rw t
 
-  held-zero : hasCode o F c ≡ false → heldBytes o F c ≡ 0
+  pub held-zero : hasCode o F c ≡ false → heldBytes o F c ≡ 0
   unfolding heldBytes
   held-zero f = rw f
 
