@@ -1,8 +1,8 @@
 -- The laws of what stays: every section behind it is of a dropped type, so one of another type stays; the sections of codes do, and so do relocation tables.
 -- Assumes nothing.
-use Prim.Native.Nat.{ℕ, _≤_, _<_}
+use Prim.Native.Nat.{ℕ, zero, suc, _≤_, _<_}
 use mathlib.Core.Path.{_≡_, refl, sym, ap, _∙_}
-use mathlib.Core.Bool.{true, false, not}
+use mathlib.Core.Bool.{true, false, not, _||_}
 use mathlib.Core.List.{List}
 use native.Mathlib.Omega.{arith}
 use lib.Dec.{eqb}
@@ -11,7 +11,8 @@ use Rattle.lists.specs.Ranges.{pastLast}
 use Rattle.lists.proofs.Ranges.{by-test, both, by-lt, past-le, past-above}
 use Rattle.fields.specs.declared.ByteOrder.{ByteOrder}
 use Rattle.records.specs.declared.section.SectionHeader.{SectionHeader}
-use Rattle.elf.specs.Readers.{sectionCount, section}
+use Rattle.scope.specs.Codes.{codeType, sectionCodes}
+use Rattle.elf.specs.Readers.{sectionCount, section, codedSection}
 use Rattle.dropping.specs.Kept.{SHT_MIPS_GPTAB, SHT_MIPS_DEBUG, stays, kept}
 
 module _ (o : ByteOrder) (F : List ℕ) where
@@ -51,3 +52,21 @@ module _ (o : ByteOrder) (F : List ℕ) where
   -- so a section of another type stays
   pub stays-kept : (flag i : ℕ) → i < sectionCount o F → stays o F i ≡ true → i < kept o F flag
   stays-kept flag i h t = by-lt i (kept o F flag) (λ l. l) (λ l. both t (dropped-type flag i l h))
+
+-- no code's type is one of the two
+code-type : (c : ℕ) → (eqb (codeType c) SHT_MIPS_GPTAB || eqb (codeType c) SHT_MIPS_DEBUG) ≡ false
+unfolding codeType sectionCodes
+code-type zero = refl
+code-type (suc zero) = refl
+code-type (suc (suc zero)) = refl
+code-type (suc (suc (suc zero))) = refl
+code-type (suc (suc (suc (suc zero)))) = refl
+code-type (suc (suc (suc (suc (suc zero))))) = refl
+code-type (suc (suc (suc (suc (suc (suc zero)))))) = refl
+code-type (suc (suc (suc (suc (suc (suc (suc n))))))) = refl
+
+-- so the sections of codes stay, where they have document 01's types
+pub coded-kept : (o : ByteOrder) (F : List ℕ) (flag c : ℕ) → codedSection o F c < sectionCount o F
+    → section o F (codedSection o F c) .«sh_type» ≡ codeType c → codedSection o F c < kept o F flag
+unfolding stays
+coded-kept o F flag c h e = stays-kept o F flag (codedSection o F c) h (rw (e, code-type c))
