@@ -5,16 +5,19 @@ use Prim.Native.Nat.{ℕ, _+_, _-_, _≤_, _<_}
 use mathlib.Core.Path.{_≡_, refl, sym, ap, _∙_}
 use mathlib.Core.Logic.{_⊎_, inl, inr, ⊎-elim}
 use mathlib.Core.Bool.{true, false}
-use mathlib.Core.List.{List}
+use mathlib.Core.List.{List, []}
 use native.Mathlib.Omega.{arith}
 use lib.ListN.{length, take, drop, getD, length-take, length-drop, List·getD-eq-default}
 use lib.Seq.{ext-getD, getD-take, getD-drop}
 use lib.Dec.{leb}
 use borrow.Author.Tests.{lt-ltb, le-ltb, ltb-true, eq-eqb, eqb-true, le-leb, leb-true}
 use Rattle.lists.specs.Ranges.{first, select}
-use Rattle.lists.proofs.Ranges.{by-test, both, by-lt, and-parts, and-true, first-is, first-none, first-high, first-to, count-all, select-length, select-at}
+use Rattle.lists.proofs.Ranges.{by-test, both, by-lt, and-parts, and-true, first-is, first-none, first-high, first-to, count-all, select-zero, select-length, select-at}
 use Rattle.lists.proofs.Windows.{length-part}
 use Rattle.fields.specs.declared.ByteOrder.{ByteOrder}
+use Rattle.scope.specs.Elf.{SHT_NOBITS}
+use Rattle.elf.specs.Readers.{section, codedSection}
+use Rattle.elf.proofs.Readers.{contents-none}
 use Rattle.places.specs.declared.Placing.the-variants.{Placed}
 use Rattle.places.specs.Spans.{spanCode, taken, place}
 use Rattle.places.specs.Walk.{placing}
@@ -156,6 +159,10 @@ module _ (o : ByteOrder) (C B : List ℕ) (p : placing o C B ≡ Placed) where
 
 -- ---- block copying
 
+coded-none : (o : ByteOrder) (F : List ℕ) (c : ℕ) → section o F (codedSection o F c) .«sh_type» ≡ SHT_NOBITS → coded o F c ≡ []
+unfolding coded
+coded-none o F c e = sym (contents-none o F (codedSection o F c) (section o F (codedSection o F c)) refl e)
+
 module _ (o : ByteOrder) (C A B : List ℕ) (c : ℕ) where
   pub length-copied : length (copied o C A B c) ≡ length (coded o C c)
   unfolding copied
@@ -204,3 +211,8 @@ module _ (o : ByteOrder) (C A B : List ℕ) (c : ℕ) where
       let e = lastEnd o C B c in
       ext-getD 0 (drop e (copied o C A B c)) (drop e (coded o C c)) (length-drop e (copied o C A B c) ∙ ap (λ (n : ℕ). n - e) length-copied ∙ sym (length-drop e (coded o C c)))
       (λ i h. getD-drop e (copied o C A B c) i 0 ∙ copied-compiled (e + i) (covered-past o C B p c (e + i) (omega arith)) ∙ sym (getD-drop e (coded o C c) i 0))
+
+  -- a section that holds no bytes, as .bss, has none after block copying: nothing is copied there
+  pub copied-none : section o C (codedSection o C c) .«sh_type» ≡ SHT_NOBITS → copied o C A B c ≡ []
+  unfolding copied
+  copied-none e = rw (coded-none o C c e) (select-zero (λ k. true) (copiedByte o C A B c))

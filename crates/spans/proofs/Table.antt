@@ -8,7 +8,7 @@ use mathlib.Core.List.{List, [], _∷_, _++_, append-nil}
 use native.Mathlib.Omega.{arith}
 use lib.ListN.{length, getD}
 use lib.Dec.{eqb, ltb}
-use borrow.Author.Tests.{lt-ltb, le-ltb, ltb-true, ltb-false}
+use borrow.Author.Tests.{eq-eqb, eqb-true, lt-ltb, le-ltb, ltb-true, ltb-false}
 use Rattle.lists.specs.Ranges.{first, count, pickList, IsFirst}
 use Rattle.lists.specs.Windows.{Within, spliced}
 use Rattle.lists.specs.Records.{flat}
@@ -27,7 +27,7 @@ use Rattle.places.proofs.Spans.{span-code-low, span-code-high, end-same, end-mo
 use Rattle.spans.specs.declared.NextSpan.the-variants.{NoSpan, Span}
 use Rattle.spans.specs.Spans.{lineCount, isSpan, spanEnd, covers, isCovered, isWordOf, replacedWord}
 use Rattle.spans.specs.Table.{spanRow, spanCount, spanRows, endsBehind, spanFrom, nextSpan, Stored, Gathered, Rows, rowEnd, rowBehind, Ascending}
-use Rattle.spans.proofs.Spans.{span-taken, span-code, covers-of, covers-not, covers-other, covered-by, covered-none, spans-ascend, span-some, covers-unique}
+use Rattle.spans.proofs.Spans.{covers-span, covers-low, covers-high, span-taken, span-code, covers-of, covers-not, covers-other, covered-by, covered-none, spans-ascend, span-some, covers-unique}
 
 -- ---- lines
 
@@ -403,6 +403,29 @@ module _ (o : ByteOrder) (C B : List ℕ) (k : ℕ) where
       (λ y. let e : i ≡ j = covers-unique o C B p 1 k i j g h (word-covers i y) t in both (rw e at y) n)
       (λ e. e))
       ∙ sym n ∙ word-is j t)
+
+  -- a replaced word stands a number of whole words behind the place of a .text span, inside it; and every such offset is one
+  pub replaced-hit : replacedWord o C B k ≡ true
+      → (j : ℕ) × (m : ℕ) × (j < lineCount B) × (isSpan o C B 1 j ≡ true) × (k ≡ place o C B j + 4 * m) × (4 * m < spanSize B j)
+  unfolding replacedWord spanEnd isWordOf
+  replaced-hit t =
+      let j = first (isWordOf o C B k) 0 (lineCount B) in
+      let h : j < lineCount B = ltb-true j (lineCount B) t in
+      let y : isWordOf o C B k j ≡ true = first-is (isWordOf o C B k) 0 (lineCount B) (omega arith) .here h in
+      let c : covers o C B 1 k j ≡ true = word-covers j y in
+      let l : place o C B j ≤ k = covers-low o C B 1 k j c in
+      let u : k < place o C B j + spanSize B j = covers-high o C B 1 k j c in
+      let e : (k - place o C B j) % 4 ≡ 0 = eqb-true _ _ (and-parts (covers o C B 1 k j) _ y .1) in
+      (j, (k - place o C B j) / 4, h, covers-span o C B 1 k j c, omega arith, omega arith)
+
+pub replaced-of : (o : ByteOrder) (C B : List ℕ) (j m : ℕ) → j < lineCount B → isSpan o C B 1 j ≡ true → 4 * m < spanSize B j
+    → replacedWord o C B (place o C B j + 4 * m) ≡ true
+unfolding spanEnd
+replaced-of o C B j m h t u =
+    let k = place o C B j + 4 * m in
+    let c : covers o C B 1 k j ≡ true = covers-of o C B 1 k j t (omega arith) (omega arith) in
+    let e : (k - place o C B j) % 4 ≡ 0 = omega arith in
+    some-word o C B k j h (word-is o C B k j c ∙ eq-eqb _ _ e)
 
 -- ---- the row that a search finds
 
