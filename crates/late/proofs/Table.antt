@@ -182,7 +182,7 @@ module _ (o : ByteOrder) (C B R : List ℕ) where
   length-words (suc n) e h =
       rw (← add-one n) (words-full n (λ k l. sound-item o C B R (blockCount B) n k e (omega arith) (omega arith) l) (length-words n e (omega arith)))
 
-  same-place : (i k : ℕ) → placeFrom o B R i (lateFrom o C B R i) k ≡ place o C B R i k
+  pub same-place : (i k : ℕ) → placeFrom o B R i (lateFrom o C B R i) k ≡ place o C B R i k
   unfolding placeFrom place lastPlace
   same-place i k = refl
 
