@@ -1,3 +1,4 @@
 pub mod Steps
 pub mod Table
 pub mod Walk
+pub mod Agree

@@ -10,7 +10,7 @@ use lib.ListN.{length, getD, length-append}
 use lib.Seq.{ext-getD}
 use Rattle.lists.specs.Ranges.{select}
 use Rattle.lists.specs.Windows.{Within, spliced}
-use Rattle.lists.proofs.Ranges.{by-lt, by-test, first-high, first-none, count-all, sum-zero, sum-next, sum-mono, gather-zero, gather-yes, gather-length, gather-split, select-length}
+use Rattle.lists.proofs.Ranges.{by-lt, by-test, first-high, first-none, count-all, sum-zero, sum-next, sum-mono, gather-zero, gather-yes, gather-length, gather-split, select-length, select-at}
 use Rattle.lists.proofs.Records.{length-flat, within-flat}
 use Rattle.lists.proofs.Windows.{within-second, within-head, length-spliced, spliced-nil, spliced-then, spliced-in, spliced-before, spliced-after}
 use Rattle.fields.specs.declared.ByteOrder.{ByteOrder}
@@ -23,7 +23,7 @@ use Rattle.blocks.proofs.Blocks.{counted-inside}
 use Rattle.places.specs.Spans.{live}
 use Rattle.block_values.specs.BlockValues.{dummyCount}
 use Rattle.block_values.proofs.DummyLines.{dummies-few}
-use Rattle.moves.specs.Moves.{items, lateSource, lateFrom, lastPlace, isFaulty, lateFault}
+use Rattle.moves.specs.Moves.{items, lateSource, lateFrom, lastPlace, place, isFaulty, lateFault}
 use Rattle.moves.proofs.Moves.{items-live, sound-item}
 use Rattle.late.specs.Steps.{placeFrom, faultFrom, soundItems, placeWords, liveDummies}
 use Rattle.late.specs.Table.{WORDS, dummyIndex, lateRow, rowTable, blockWords, wordTable, filled}
@@ -99,7 +99,7 @@ module _ (o : ByteOrder) (C B R : List ℕ) (s : ℕ) where
       let r = rows-split i n h in
       rw (r .1) (within-head (lateRow o C B R s i) (r .0) _ (12 * i) (within-second (rowTable o C B R s i) (lateRow o C B R s i ++ r .0) (12 * i) (length-rows i)))
 
-  within-field : (i k : ℕ) → k < 3
+  pub within-field : (i k : ℕ) → k < 3
       → Within (encoded Big 4 (getD (lateSource o C B s i ∷ dummyIndex o C B i ∷ lateFrom o C B R i ∷ []) k 0)) (4 * k) (lateRow o C B R s i)
   unfolding lateRow
   within-field i k h =
@@ -181,6 +181,36 @@ module _ (o : ByteOrder) (C B R : List ℕ) where
   length-words zero e h = rw (words-zero, index-zero o C B)
   length-words (suc n) e h =
       rw (← add-one n) (words-full n (λ k l. sound-item o C B R (blockCount B) n k e (omega arith) (omega arith) l) (length-words n e (omega arith)))
+
+  pub same-place : (i k : ℕ) → placeFrom o B R i (lateFrom o C B R i) k ≡ place o C B R i k
+  unfolding placeFrom place lastPlace
+  same-place i k = refl
+
+  -- where nothing is at fault: the words of block i stand behind those of the blocks before it, and the place of dummy k is word k of them
+  module _ (e : lateFault o C B R ≡ blockCount B) (i : ℕ) (h : i < blockCount B) where
+    pub within-block : Within (blockWords o C B R i) (4 * dummyIndex o C B i) (wordTable o C B R (blockCount B))
+    within-block =
+        let r = words-split i (blockCount B) h in
+        rw (r .1) (within-head (blockWords o C B R i) (r .0) _ (4 * dummyIndex o C B i)
+        (within-second (wordTable o C B R i) (blockWords o C B R i ++ r .0) (4 * dummyIndex o C B i) (length-words i e (omega arith))))
+
+    all-sound : soundItems o B R i (lateFrom o C B R i) (liveDummies o C B i) ≡ liveDummies o C B i
+    unfolding soundDummies
+    all-sound = block-full i (λ k l. sound-item o C B R (blockCount B) i k e h h l)
+
+    pub within-dummy : (k : ℕ) → k < liveDummies o C B i → Within (encoded Big 4 (place o C B R i k)) (4 * k) (blockWords o C B R i)
+    unfolding blockWords placeWords
+    within-dummy k l =
+        rw (all-sound, ← picked k l)
+        (within-flat (encoded Big 4) 4 (length-encoded Big 4) (select (λ j. true) (placeFrom o B R i (lateFrom o C B R i)) (liveDummies o C B i)) k 0
+        (rw (select-length (λ j. true) (placeFrom o B R i (lateFrom o C B R i)) (liveDummies o C B i), count-all) l))
+      where
+        picked : (k : ℕ) → k < liveDummies o C B i
+            → getD (select (λ j. true) (placeFrom o B R i (lateFrom o C B R i)) (liveDummies o C B i)) k 0 ≡ place o C B R i k
+        picked k l =
+            ap (λ (n : ℕ). getD (select (λ j. true) (placeFrom o B R i (lateFrom o C B R i)) (liveDummies o C B i)) n 0) (sym (count-all k))
+            ∙ select-at (λ j. true) (placeFrom o B R i (lateFrom o C B R i)) k (liveDummies o C B i) 0 l refl
+            ∙ same-place i k
 
 -- ---- a table filled so far
 

@@ -67,7 +67,7 @@ told-stop true a b c r e q = refl
 told-stop false a b c r e q = next-stop false true a b c (sym e ∙ q)
 
 module _ (o : ByteOrder) (C B R : List ℕ) (i : ℕ) where
-  same-fault : (k : ℕ) → faultFrom o B R i (lateFrom o C B R i) k ≡ isFaulty o C B R i k
+  pub same-fault : (k : ℕ) → faultFrom o B R i (lateFrom o C B R i) k ≡ isFaulty o C B R i k
   unfolding faultFrom isFaulty lastPlace
   same-fault k = refl
 

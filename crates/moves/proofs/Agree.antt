@@ -6,17 +6,18 @@ use mathlib.Core.Bool.{Bool, _&&_}
 use mathlib.Core.List.{List}
 use native.Mathlib.Numerals.{add-one}
 use native.Mathlib.Omega.{arith}
-use lib.ListN.{length, drop}
-use lib.Dec.{ltb}
-use Rattle.lists.proofs.Ranges.{by-lt, first-ext}
+use lib.ListN.{length, drop, getD}
+use Rattle.lists.proofs.Ranges.{by-lt}
 use Rattle.fields.specs.declared.ByteOrder.{ByteOrder}
 use Rattle.blocks.specs.Blocks.{blockCount}
 use Rattle.places.specs.Spans.{endAt}
 use Rattle.block_values.specs.BlockValues.{dummyCount, dummyWord}
 use Rattle.dummies.specs.Dummies.{found, shifts, placed, isLost}
 use Rattle.dummies.proofs.Dummies.{word-agree, found-agree, found-low}
-use Rattle.moves.specs.Rows.{indexIn, hasIndex, rowIn}
+use Rattle.moves.specs.Rows.{rowIn, columnIn}
 use Rattle.moves.specs.Moves.{isDummy, firstOfMany, itemLength, itemPlace, itemFault, items, lateFrom, lastPlace, place, isFaulty, lateFault, isShifted}
+use Rattle.moves.specs.Moved.{tableWord, isJumpWord, covers, zeroes, movedBlock, movedItem, placeOf, movedPlace, offsetOf, coveredBy, lateByte}
+use Rattle.moves.proofs.Rows.{row-same, column-same, has-row-same}
 use Rattle.moves.proofs.Moves.{place-dummy, place-table, fault-dummy, fault-table, late-zero, late-next, last-zero, last-next, last-past}
 
 module _ (o : ByteOrder) (R S : List ℕ) (a : ℕ) (long : length R ≡ length S) (agree : drop a R ≡ drop a S) (many : Bool) (last w : ℕ) (h : a ≤ last) where
@@ -71,17 +72,49 @@ module _ (o : ByteOrder) (C B R S : List ℕ) (long : length R ≡ length S)
       rw (last-agree i k) (ap (λ (b : Bool). isDummy B i k && b)
       (shifts-agree o R S _ long agree (firstOfMany B i k) (lastPlace o C B S i k) (dummyWord B i k) (last-past o C B S i k)))
 
-  faulty-agree : (i k : ℕ) → isFaulty o C B R i k ≡ isFaulty o C B S i k
+  pub faulty-agree : (i k : ℕ) → isFaulty o C B R i k ≡ isFaulty o C B S i k
   unfolding isFaulty
   faulty-agree i k = rw (last-agree i k) (fault-agree i (lastPlace o C B S i k) k (last-past o C B S i k))
 
-  index-agree : (i : ℕ) → hasIndex (isFaulty o C B R) (items o C B) i ≡ hasIndex (isFaulty o C B S) (items o C B) i
-  unfolding hasIndex indexIn
-  index-agree i =
-      ap (λ (n : ℕ). ltb n (items o C B i)) (first-ext (isFaulty o C B R i) (isFaulty o C B S i) 0 (items o C B i) (λ k l u. faulty-agree i k))
-
   -- the same block is at fault
   pub late-fault-agree : lateFault o C B R ≡ lateFault o C B S
-  unfolding lateFault rowIn
-  late-fault-agree =
-      first-ext (hasIndex (isFaulty o C B R) (items o C B)) (hasIndex (isFaulty o C B S) (items o C B)) 0 (blockCount B) (λ i l u. index-agree i)
+  unfolding lateFault
+  late-fault-agree = row-same (isFaulty o C B R) (isFaulty o C B S) (items o C B) faulty-agree (blockCount B)
+
+  -- ---- what the late step comes to
+
+  pub covers-agree : (x i k : ℕ) → covers o C B R x i k ≡ covers o C B S x i k
+  unfolding covers
+  covers-agree x i k = rw (place-agree i k)
+
+  pub zeroes-agree : (x i k : ℕ) → zeroes o C B R x i k ≡ zeroes o C B S x i k
+  unfolding zeroes
+  zeroes-agree x i k = rw (place-agree i k, shifted-agree i k)
+
+  table-agree : (x i k : ℕ) → tableWord o C B R x i k ≡ tableWord o C B S x i k
+  unfolding tableWord
+  table-agree x i k = rw (place-agree i k)
+
+  pub jump-word-agree : (x : ℕ) → isJumpWord o C B R x ≡ isJumpWord o C B S x
+  unfolding isJumpWord
+  jump-word-agree x = has-row-same (tableWord o C B R x) (tableWord o C B S x) (items o C B) (table-agree x) (blockCount B)
+
+  pub moved-place-agree : (s x : ℕ) → movedPlace o C B R s x ≡ movedPlace o C B S s x
+  unfolding movedPlace placeOf
+  moved-place-agree s x = rw (place-agree (movedBlock o C B s x) (movedItem o C B s x))
+
+  -- a byte that is the same in both is the same after the late moves
+  pub late-byte-agree : (s : ℕ) (L : List ℕ) (x : ℕ) → getD R x 0 ≡ getD S x 0 → lateByte o C B R s L x ≡ lateByte o C B S s L x
+  unfolding lateByte coveredBy offsetOf
+  late-byte-agree s L x e =
+      let c = covers-agree x in
+      let z = zeroes-agree x in
+      let n = blockCount B in
+      rw (
+        has-row-same (covers o C B R x) (covers o C B S x) (items o C B) c n,
+        has-row-same (zeroes o C B R x) (zeroes o C B S x) (items o C B) z n,
+        row-same (covers o C B R x) (covers o C B S x) (items o C B) c n,
+        column-same (covers o C B R x) (covers o C B S x) (items o C B) c n,
+        place-agree (rowIn (covers o C B S x) (items o C B) n) (columnIn (covers o C B S x) (items o C B) n),
+        e,
+      )

@@ -5,7 +5,7 @@ use mathlib.Core.Bool.{Bool, true, false}
 use native.Mathlib.Omega.{arith}
 use borrow.Author.Tests.{lt-ltb, le-ltb, ltb-true}
 use Rattle.lists.specs.Ranges.{first}
-use Rattle.lists.proofs.Ranges.{by-test, both, first-is, first-to, first-none}
+use Rattle.lists.proofs.Ranges.{by-test, both, first-is, first-to, first-none, first-ext}
 use Rattle.moves.specs.Rows.{indexIn, hasIndex, rowIn, columnIn, hasRow}
 
 module _ (p : ℕ → ℕ → Bool) (m : ℕ → ℕ) where
@@ -58,3 +58,25 @@ module _ (p : ℕ → ℕ → Bool) (m : ℕ → ℕ) (n : ℕ) where
   pub row-is : (i k : ℕ) → i < n → k < m i → p i k ≡ true → ((j l : ℕ) → Hit p m n j l → (j ≡ i) × (l ≡ k))
       → (rowIn p m n ≡ i) × (columnIn p m n ≡ k)
   row-is i k h l t only = only (rowIn p m n) (columnIn p m n) (row-hit (row-yes p m n i k h l t))
+
+-- two tests that agree have the same first pair
+module _ (p q : ℕ → ℕ → Bool) (m : ℕ → ℕ) (agree : (i k : ℕ) → p i k ≡ q i k) where
+  pub index-same : (i : ℕ) → indexIn p m i ≡ indexIn q m i
+  unfolding indexIn
+  index-same i = first-ext (p i) (q i) 0 (m i) (λ k l u. agree i k)
+
+  pub has-index-same : (i : ℕ) → hasIndex p m i ≡ hasIndex q m i
+  unfolding hasIndex
+  has-index-same i = rw (index-same i)
+
+  pub row-same : (n : ℕ) → rowIn p m n ≡ rowIn q m n
+  unfolding rowIn
+  row-same n = first-ext (hasIndex p m) (hasIndex q m) 0 n (λ i l u. has-index-same i)
+
+  pub column-same : (n : ℕ) → columnIn p m n ≡ columnIn q m n
+  unfolding columnIn
+  column-same n = rw (row-same n) (index-same (rowIn q m n))
+
+  pub has-row-same : (n : ℕ) → hasRow p m n ≡ hasRow q m n
+  unfolding hasRow
+  has-row-same n = rw (row-same n)
