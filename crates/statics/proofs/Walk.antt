@@ -1,12 +1,15 @@
 -- Laws of the walk over the files: what a file leaves, and what the end of the walk answers. Assumes nothing.
+use lib.Dec.{eqb, ltb, leb}
+use Rattle.scope.specs.declared.Finding.{Finding}
+use Rattle.statics.specs.declared.Listing.{Listing}
 use mathlib.Core.Path.{_≡_, refl, sym, ap, _∙_}
-use mathlib.Core.Bool.{true, false, not}
+use mathlib.Core.Bool.{Bool, true, false, not, _&&_}
 use mathlib.Core.List.{List, []}
 use Prim.Native.Nat.{ℕ, _+_, _*_, _≤_, _<_}
 use native.Mathlib.Omega.{arith}
 use native.Mathlib.Numerals.{add-one}
 use lib.ListN.{length}
-use borrow.Author.Tests.{lt-ltb, le-ltb, le-leb, lt-leb}
+use borrow.Author.Tests.{lt-ltb, le-ltb, le-leb, lt-leb, ne-eqb}
 use Rattle.lists.specs.Ranges.{first}
 use Rattle.lists.proofs.Ranges.{by-test, both, first-here, first-next, first-end, sum-next, sum-zero}
 use Rattle.lists.specs.Windows.{spliced}
@@ -15,13 +18,15 @@ use Rattle.fields.specs.declared.ByteOrder.{ByteOrder}
 use Rattle.scope.specs.declared.Finding.the-variants.{Clear, At}
 use Rattle.debug_entries.specs.declared.Tables.{Tables}
 use Rattle.debug_entries.specs.declared.FileRecord.{FileRecord}
-use Rattle.debug_entries.specs.Entries.{fileAt}
+use Rattle.debug_entries.specs.Entries.{tablesIn, fileAt}
+use Rattle.elf.specs.Readers.{sectionCount, contents}
+use Rattle.scope.specs.Refusals.{expect}
 use Rattle.static_table.specs.declared.Static.{Static}
 use Rattle.static_table.specs.Table.{rows, staticsIn, Listed}
 use Rattle.static_table.proofs.Table.{length-statics, statics-none, rows-none, listed-none}
 use Rattle.statics.specs.declared.FileEnd.{FileEnd}
 use Rattle.statics.specs.File.{listedIn, completedIn, failsIn, FileWalked}
-use Rattle.statics.specs.Walk.{descriptorPlace, descriptorInside, fileRecord, entryCount, entriesBefore, entriesStart, namesStart, listedBefore, completed, fileFault, faultyFile, walkFault, walkList, FileListed, Answered}
+use Rattle.statics.specs.Walk.{descriptorPlace, descriptorInside, fileRecord, entryCount, entriesBefore, entriesStart, namesStart, listedBefore, completed, fileFault, faultyFile, walkFault, walkList, FileListed, Answered, debugSection, hasDebug, debugPart, debugFault, debugList, readsStatics, staticsFault, statics, noStatics}
 use Rattle.statics.proofs.File.{listed-zero, listed-longer, completed-le, clear-completed, tables-then}
 
 -- ---- one file
@@ -218,3 +223,69 @@ module _ (o : ByteOrder) (C : List ℕ) (head : ℕ) (t : Tables) (T₀ : List �
           long = tables .1;
           listed = q .listed;
         }
+
+-- ---- the debug section
+
+and-false : (b : Bool) → (b && false) ≡ false
+and-false true = refl
+and-false false = refl
+
+-- no static: the table stays
+pub answered-none : (head : ℕ) (C : List ℕ) (f : Finding) (l : List Static) (T : List ℕ) (x : Finding) → 98304 ≤ length T → x ≡ f → l ≡ []
+    → Answered head C f l (record { fault = x; count = 0; size = 0 }) T T
+answered-none head C f l T x h e is = record {
+  fault = e;
+  list = statics-none T ∙ sym is;
+  table = sym (ap (λ (y : List Static). spliced T 0 (rows y)) is ∙ ap (spliced T 0) rows-none ∙ spliced-nil T 0);
+  listed = listed-none head C T h;
+}
+
+module _ (o : ByteOrder) (C : List ℕ) where
+  pub part-at : (i : ℕ) → i ≡ debugSection o C → contents o C i ≡ debugPart o C
+  unfolding debugPart
+  part-at i e = ap (contents o C) e
+
+module _ (o : ByteOrder) (C : List ℕ) (head : ℕ) where
+  -- a header that leaves the section
+  pub debug-short : (D T : List ℕ) → D ≡ debugPart o C → length D < 80 → 98304 ≤ length T
+      → Answered head C (debugFault o C head) (debugList o C head) (record { fault = At 0; count = 0; size = 0 }) T T
+  unfolding debugFault debugList expect
+  debug-short D T e h room =
+      let l : length (debugPart o C) < 80 = rw (← e) h in
+      let k : leb 80 (length (debugPart o C)) ≡ false = lt-leb _ _ l in
+      answered-none head C _ _ T (At 0) room (rw k) (rw k)
+
+  pub debug-read : (D : List ℕ) (t : Tables) (r : Listing) (T T′ : List ℕ) → D ≡ debugPart o C → 80 ≤ length D → t ≡ tablesIn o D
+      → Answered head C (walkFault o C head t) (walkList o C head t) r T T′ → Answered head C (debugFault o C head) (debugList o C head) r T T′
+  unfolding debugFault debugList expect
+  debug-read D t r T T′ e h is a =
+      let l : 80 ≤ length (debugPart o C) = rw (← e) h in
+      let k : leb 80 (length (debugPart o C)) ≡ true = le-leb _ _ l in
+      let f : t ≡ tablesIn o (debugPart o C) = is ∙ ap (tablesIn o) e in
+      rw (k, ← f) a
+
+  reads-none : (mode : ℕ) → readsStatics o C mode ≡ false → (T : List ℕ) → 98304 ≤ length T
+      → Answered head C (staticsFault o C mode head) (statics o C mode head) noStatics T T
+  unfolding staticsFault statics noStatics
+  reads-none mode f T room = answered-none head C _ _ T Clear room (rw f) (rw f)
+
+  pub mode-none : (mode : ℕ) (r : Listing) → mode ≡ 0 → r ≡ noStatics → (T : List ℕ) → 98304 ≤ length T
+      → Answered head C (staticsFault o C mode head) (statics o C mode head) r T T
+  unfolding readsStatics
+  mode-none mode r e is T room = rw is (reads-none mode (rw e) T room)
+
+  pub debug-absent : (mode i : ℕ) (r : Listing) → i ≡ debugSection o C → sectionCount o C ≤ i → r ≡ noStatics → (T : List ℕ) → 98304 ≤ length T
+      → Answered head C (staticsFault o C mode head) (statics o C mode head) r T T
+  unfolding readsStatics hasDebug
+  debug-absent mode i r e h is T room =
+      let l : sectionCount o C ≤ debugSection o C = rw (← e) h in
+      let k : ltb (debugSection o C) (sectionCount o C) ≡ false = le-ltb _ _ l in
+      rw is (reads-none mode (rw k (and-false (not (eqb mode 0)))) T room)
+
+  pub debug-there : (mode i : ℕ) → (mode ≡ 0 → ⊥) → i ≡ debugSection o C → i < sectionCount o C → (r : Listing) (T T′ : List ℕ)
+      → Answered head C (debugFault o C head) (debugList o C head) r T T′ → Answered head C (staticsFault o C mode head) (statics o C mode head) r T T′
+  unfolding staticsFault statics readsStatics hasDebug
+  debug-there mode i n e h r T T′ a =
+      let l : debugSection o C < sectionCount o C = rw (← e) h in
+      let k : ltb (debugSection o C) (sectionCount o C) ≡ true = lt-ltb _ _ l in
+      rw (ne-eqb mode 0 n, k) a

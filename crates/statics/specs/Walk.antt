@@ -95,6 +95,10 @@ pub record Answered (head : ℕ) (C : List ℕ) (f : Finding) (l : List Static) 
   pub table : after ≡ spliced before 0 (rows l)
   pub listed : Listed head C after (r .count) (r .size)
 
+-- the answer where no static is read
+unfoldable pub noStatics : Listing
+noStatics = record { fault = Clear; count = 0; size = 0 }
+
 module _ (o : ByteOrder) (C : List ℕ) where
   -- document 01: the first section of that name, before any is dropped; the section count where there is none
   unfoldable pub debugSection : ℕ
@@ -106,13 +110,20 @@ module _ (o : ByteOrder) (C : List ℕ) where
   unfoldable pub debugPart : List ℕ
   debugPart = contents o C debugSection
 
+  -- 17 at 0 where a header read leaves .mdebug: 80 bytes hold the four words
+  unfoldable pub debugFault : ℕ → Finding
+  debugFault head = expect (leb 80 (length debugPart)) 0 (walkFault o C head (tablesIn o debugPart))
+
+  unfoldable pub debugList : ℕ → List Static
+  debugList head = pickList (leb 80 (length debugPart)) (walkList o C head (tablesIn o debugPart)) []
+
   -- statics are read in modes 1 to 3 where .mdebug is present
   unfoldable pub readsStatics : ℕ → Bool
   readsStatics mode = not (eqb mode 0) && hasDebug
 
-  -- a header read leaves .mdebug: 80 bytes hold the four words
+  -- refusal 17, before any section moves
   unfoldable pub staticsFault : ℕ → ℕ → Finding
-  staticsFault mode head = pickFinding (readsStatics mode) (expect (leb 80 (length debugPart)) 0 (walkFault o C head (tablesIn o debugPart))) Clear
+  staticsFault mode head = pickFinding (readsStatics mode) (debugFault head) Clear
 
   unfoldable pub statics : ℕ → ℕ → List Static
-  statics mode head = pickList (readsStatics mode && leb 80 (length debugPart)) (walkList o C head (tablesIn o debugPart)) []
+  statics mode head = pickList (readsStatics mode) (debugList head) []

@@ -4,11 +4,14 @@ ghost use mathlib.Core.Path.{_≡_};
 ghost use mathlib.Core.Bool.{cond};
 ghost use Prim.Native.Nat.{_+_, _*_, _≤_, _<_};
 ghost use lib.ListN.{length};
+ghost use Rattle.scope.specs.Text.{text};
+ghost use Rattle.elf.specs.Readers.{sectionCount, sectionStrings, hasName};
+ghost use Rattle.elf.specs.Bounds.{Headed, Named};
 ghost use Rattle.debug_entries.specs.Entries.{opensScope, closesScope};
 ghost use Rattle.static_table.specs.Table.{staticsIn, Listed};
 ghost use Rattle.static_entries.specs.Step.{Setting};
 ghost use Rattle.statics.specs.File.{FileWalked};
-ghost use Rattle.statics.specs.Walk.{listedBefore, walkFault, walkList, FileListed, Answered};
+ghost use Rattle.statics.specs.Walk.{listedBefore, walkFault, walkList, FileListed, Answered, debugSection, debugFault, debugList, noStatics, staticsFault, statics};
 use debug_entries::FileRecord;
 use debug_entries::Tables;
 use fields::ByteOrder;
@@ -183,4 +186,81 @@ fn walk_files(
         count,
         size,
     }
+}
+
+// Whether section i is named .mdebug; `strings` is the names' table.
+fn is_debug(order: ByteOrder, file: &[u8], strings: &[u8], i: usize) -> bool
+    requires { ⌜ Headed order (now file) × (now strings ≡ sectionStrings order (now file)) × (i < sectionCount order (now file)) ⌝ }
+    ensures { λ r. ⌜ r ≡ hasName order (now (file .entry)) (text ".mdebug") i ⌝ }
+{
+    let h = elf::section_at(order, file, i);
+    names::name_is(strings, h.sh_name as usize, b".mdebug")
+}
+
+// The section .mdebug: the first of that name, or the section count.
+fn debug_section(order: ByteOrder, file: &[u8]) -> usize
+    requires { ⌜ Named order (now file) ⌝ }
+    ensures { λ r. ⌜ r ≡ debugSection order (now (file .entry)) ⌝ }
+{
+    let strings = elf::section_strings(order, file);
+    let n = elf::section_count(order, file);
+    let mut i: usize = 0;
+    while i < n {
+        if is_debug(order, file, strings, i) {
+            return i;
+        }
+        i += 1;
+    }
+    n
+}
+
+// The statics of .mdebug, which is section i.
+fn list_debug(order: ByteOrder, file: &[u8], i: usize, head: u32, table: &mut [u8]) -> Listing
+    requires { ⌜ Named order (now file) × (length (now file) ≤ 1048576) × (head ≤ 256) × (98304 ≤ length (now table)) × (i ≡ debugSection order (now file))
+        × (i < sectionCount order (now file)) ⌝ }
+    ensures { λ r. ⌜ Answered head (now (file .entry)) (debugFault order (now (file .entry)) head) (debugList order (now (file .entry)) head) r (now (table .entry)) (now (table .exit)) ⌝ }
+{
+    let debug = elf::contents_of(order, file, i);
+    if debug.len() < Tables::SIZE {
+        return Listing {
+            fault: Finding::At(0),
+            count: 0,
+            size: 0,
+        };
+    }
+    let t = Tables::new(order, debug);
+    let present = Present::new(order, file);
+    walk_files(order, file, present, head, t, table)
+}
+
+// The answer where no static is read.
+fn no_statics() -> Listing
+    ensures { λ r. ⌜ r ≡ noStatics ⌝ }
+{
+    Listing {
+        fault: Finding::Clear,
+        count: 0,
+        size: 0,
+    }
+}
+
+// Refusal 17 of the compiled object in a mode, and its statics. `head` is how many bytes the mode puts in front of a name.
+pub fn list_statics(
+    order: ByteOrder,
+    file: &[u8],
+    mode: u32,
+    head: u32,
+    table: &mut [u8],
+) -> Listing
+    requires { ⌜ Named order (now file) × (length (now file) ≤ 1048576) × (head ≤ 256) × (98304 ≤ length (now table)) ⌝ }
+    ensures { λ r. ⌜ Answered head (now (file .entry)) (staticsFault order (now (file .entry)) mode head) (statics order (now (file .entry)) mode head) r (now (table .entry)) (now (table .exit)) ⌝ }
+{
+    if mode == 0 {
+        return no_statics();
+    }
+    let i = debug_section(order, file);
+    if i < elf::section_count(order, file) {
+        return list_debug(order, file, i, head, table);
+    }
+    no_statics()
 }
