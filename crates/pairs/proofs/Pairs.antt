@@ -2,10 +2,18 @@
 use Prim.Native.Nat.{ℕ}
 use mathlib.Core.Path.{_≡_, refl}
 use mathlib.Core.Bool.{true, false}
-use mathlib.Core.List.{List, [], _∷_}
-use Rattle.lists.specs.Ranges.{firstFrom}
+use mathlib.Core.List.{List, [], _∷_, _++_, map}
+use Rattle.lists.specs.Ranges.{firstFrom, count}
+use Rattle.lists.specs.Strings.{same, zeroAt, nameEnd, nameAt}
 use Rattle.fields.specs.declared.ByteOrder.the-variants.{Big}
-use Rattle.fields.specs.Numbers.{number, turned, magnitude}
+use Rattle.fields.specs.Numbers.{turned, magnitude, number}
+use Rattle.scope.specs.Text.{text}
+use Rattle.draft_lines.specs.Lines.{digitsText, decimalText}
+use Rattle.debug_entries.specs.Entries.{entryAt, among, listsStatic, opensScope, closesScope, storageCode}
+use Rattle.debug_shift.specs.Shift.{isOffset, moves, movedWord}
+use Rattle.static_table.specs.Statics.{storedName, countTail, workingName, isNamesake, namesakes, writtenLength, namesLength}
+use Rattle.static_entries.specs.Entry.{nth, countOf, staticFrom, typeAt, isStatic, nameStart, listAfter}
+use Rattle.statics.specs.File.{entryPlace, opened, closed, nested, listedIn}
 use Rattle.packed.specs.Packed.{symbolOf, kindOf, relocationInfo, shifted}
 use Rattle.places.specs.Spans.{oddPlace}
 use Rattle.dummies.specs.Dummies.{wordAt, found, shifts, placed}
@@ -24,6 +32,38 @@ info-join = refl
 -- a debug section from 200 to 1F0: offset 260 becomes 250, all hex
 pub debug-shift : shifted 0x260 0x200 0x1F0 ≡ 0x250
 debug-shift = refl
+
+-- the same of its header's word, and with count 0 it stays: the words are ilineMax, cbLine and cbLineOffset
+pub debug-word-moves : movedWord (0 ∷ 1 ∷ 0x260 ∷ []) 0x200 0x1F0 2 ≡ 0x250
+unfolding movedWord moves isOffset
+debug-word-moves = refl
+
+pub debug-word-stays : movedWord (0 ∷ 0 ∷ 0x260 ∷ []) 0x200 0x1F0 2 ≡ 0x260
+unfolding movedWord moves isOffset
+debug-word-stays = refl
+
+-- scope file, proc, static n twice: n:1, n:2. At level 1: n. The name stands at 0, the entries from 4 on; an entry is a name, a value, and type and
+-- storage class in the high bits of a word.
+pub entry : ℕ → ℕ → List ℕ
+entry value bits = 0 ∷ 0 ∷ 0 ∷ 0 ∷ 0 ∷ 0 ∷ 0 ∷ value ∷ bits ∷ 0x40 ∷ 0 ∷ 0 ∷ []
+
+pub n-file : List ℕ → List ℕ
+n-file entries = 110 ∷ 0 ∷ 0 ∷ 0 ∷ entries
+
+-- types 11 (file), 6 (procedure), 2 (static, twice), 8 (end, twice)
+pub twice : List ℕ
+twice = n-file (entry 0 0x2C ++ entry 0 0x18 ++ entry 4 0x08 ++ entry 8 0x08 ++ entry 0 0x20 ++ entry 0 0x20)
+
+pub once : List ℕ
+once = n-file (entry 0 0x2C ++ entry 4 0x08 ++ entry 0 0x20)
+
+pub static-counts : map (workingName twice) (listedIn Big twice 0 4 0 [] 6) ≡ text "n:1" ∷ text "n:2" ∷ []
+unfolding twice once n-file entry listedIn entryPlace nested opened closed listAfter isStatic typeAt nameStart staticFrom countOf nth entryAt number turned magnitude nameAt nameEnd firstFrom zeroAt among listsStatic opensScope closesScope storageCode count namesakes isNamesake same workingName storedName countTail decimalText digitsText namesLength writtenLength text
+static-counts = refl
+
+pub static-plain : map (workingName once) (listedIn Big once 0 4 0 [] 3) ≡ text "n" ∷ []
+unfolding twice once n-file entry listedIn entryPlace nested opened closed listAfter isStatic typeAt nameStart staticFrom countOf nth entryAt number turned magnitude nameAt nameEnd firstFrom zeroAt among listsStatic opensScope closesScope storageCode count namesakes isNamesake same workingName storedName countTail decimalText digitsText namesLength writtenLength text
+static-plain = refl
 
 -- place 12: align8 4 passes, 8 gives 9; place 16: 8 passes
 pub twelve-four : oddPlace 12 4 ≡ false

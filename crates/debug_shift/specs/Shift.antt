@@ -1,0 +1,48 @@
+-- The shift of a debug section that moves (document 01, "Statics"): if its offset changes, each offset word of its symbolic header whose count is not zero moves
+-- by the difference, modulo 2 ^ 32; it then needs 96 bytes and magic 7009 hex. D is the section's bytes.
+use Prim.Native.Nat.{ℕ, _-_, _%_}
+use mathlib.Core.Bool.{Bool, true, cond, not, _&&_}
+use mathlib.Core.List.{List}
+use lib.ListN.{length, getD}
+use lib.Dec.{eqb, leb}
+use Rattle.lists.specs.Ranges.{select}
+use Rattle.lists.specs.Windows.{spliced}
+use Rattle.fields.specs.declared.ByteOrder.{ByteOrder}
+use Rattle.records.specs.declared.debug.Hdrr.{Hdrr}
+use Rattle.fields.specs.Numbers.{encoded}
+use Rattle.lists.specs.Records.{flat}
+use Rattle.records.specs.Debug.{debugAt}
+use Rattle.packed.specs.Packed.{shifted}
+
+-- MIPS debug documentation, magicSym; and sh_type of a debug section, SHT_MIPS_DEBUG
+abbrev pub MAGIC : ℕ
+MAGIC = 0x7009
+
+abbrev pub SHT_MIPS_DEBUG : ℕ
+SHT_MIPS_DEBUG = 0x70000005
+
+-- the words of the header are ilineMax and eleven pairs: a count, and the offset behind it. Word i is the offset of a pair.
+unfoldable pub isOffset : ℕ → Bool
+isOffset i = leb 2 i && eqb (i % 2) 0
+
+-- it moves where its count is not zero
+unfoldable pub moves : List ℕ → ℕ → Bool
+moves words i = isOffset i && not (eqb (getD words (i - 1) 0) 0)
+
+-- word i after a move from old to new
+unfoldable pub movedWord : List ℕ → ℕ → ℕ → ℕ → ℕ
+movedWord words old new i = cond (moves words i) (shifted (getD words i 0) old new) (getD words i 0)
+
+unfoldable pub movedWords : List ℕ → ℕ → ℕ → List ℕ
+movedWords words old new = select (λ i. true) (movedWord words old new) 23
+
+-- the section's bytes after the move: the words of its header, behind magic and vstamp, are written anew
+unfoldable pub movedDebug : ByteOrder → List ℕ → ℕ → ℕ → List ℕ
+movedDebug o D old new = spliced D 4 (flat (encoded o 4) (movedWords (debugAt o D 0 .words) old new))
+
+-- 17 at 0, tested after 20: the section moves, and has no header
+unfoldable pub hasHeader : ByteOrder → List ℕ → Bool
+hasHeader o D = leb 96 (length D) && eqb (debugAt o D 0 .magic) MAGIC
+
+unfoldable pub shiftFails : ByteOrder → List ℕ → ℕ → ℕ → ℕ → Bool
+shiftFails o D type old new = eqb type SHT_MIPS_DEBUG && (not (eqb old new) && not (hasHeader o D))

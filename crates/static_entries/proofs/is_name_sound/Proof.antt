@@ -1,0 +1,26 @@
+-- The zero end stands behind the name where that is inside the file. Assumes nothing.
+use Rattle.static_entries.proofs.Entry.{sound-is}
+use Prim.Native.Nat.{zero}
+use mathlib.Core.Path.{ap, _∙_}
+use lib.ListN.{length}
+use denote.Ref.{now}
+use borrow.Author.Needs.{needs}
+use Rattle.static_entries.proofs.is_name_sound.Statement.{statement}
+use Rattle.static_entries.proofs.is_name_sound.Tie as tie
+
+name-at-requires : tie.Need-name-at-requires
+name-at-requires c κs = search needs
+
+add-both : tie.Need-add-both
+add-both c = search needs
+
+both-requires : tie.Need-both-requires
+both-requires c κs = search needs
+
+returns : tie.Need-returns
+returns c =
+    let a = c .before .before .before .args in
+    c .both .ensures ∙ sound-is (now (a .file)) (a .start) _ (ap length (c .before .name-at .ensures))
+
+pub is-name-sound-spec : {M : Type 1} → statement M
+is-name-sound-spec = tie.close (tie.spec name-at-requires add-both both-requires returns)

@@ -1,0 +1,76 @@
+-- What one entry of the debug section comes to (document 01, "Statics"). C is the compiled object, L the statics listed before the entry, `at` where the
+-- entry stands in C, `base` where the names of its file start, `nested` whether it stands above level 1.
+use Prim.Native.Nat.{ℕ, _+_}
+use mathlib.Core.Bool.{Bool, false, cond, not, _&&_, _||_}
+use mathlib.Core.List.{List, [], _∷_, _++_}
+use lib.ListN.{length, getD}
+use lib.Dec.{eqb, ltb, leb}
+use Rattle.lists.specs.Ranges.{pickList}
+use Rattle.lists.specs.Strings.{hasEnd, nameAt}
+use Rattle.fields.specs.declared.ByteOrder.{ByteOrder}
+use Rattle.elf.specs.Readers.{sectionCount, codedSection}
+use Rattle.debug_entries.specs.declared.Entry.{Entry}
+use Rattle.debug_entries.specs.Entries.{entryAt, entryType, storageClass, listsStatic, storageCode}
+use Rattle.static_table.specs.declared.Static.{Static}
+use Rattle.static_table.specs.Statics.{namesLength, namesakes}
+
+-- the limits of document 01: statics of an object, bytes of a stored name
+abbrev pub STATIC_LIMIT : ℕ
+STATIC_LIMIT = 4096
+
+abbrev pub STATIC_NAME_LIMIT : ℕ
+STATIC_NAME_LIMIT = 1024
+
+-- static k of a list; zeros past its end
+unfoldable pub nth : List Static → ℕ → Static
+nth L k = getD L k (record { value = 0; code = 0; start = 0; length = 0; number = 0; offset = 0 })
+
+-- the count that a name gains behind the statics of a list: one more than its namesakes over the whole object so far
+unfoldable pub countOf : List ℕ → List Static → List ℕ → Bool → ℕ
+countOf C L name nested = cond nested (namesakes C name (nth L) (length L) + 1) 0
+
+-- the static of an entry whose name starts at `start`; `size` is the bytes of the written names before it
+unfoldable pub staticFrom : List ℕ → List Static → Entry → ℕ → Bool → ℕ → Static
+staticFrom C L e start nested size = record {
+  value = e .value;
+  code = storageCode (storageClass (e .bits));
+  start = start;
+  length = length (nameAt C start);
+  number = countOf C L (nameAt C start) nested;
+  offset = size;
+}
+
+-- a name read: a zero end inside C, and at most 1,024 bytes
+unfoldable pub nameSound : List ℕ → ℕ → Bool
+nameSound C start = hasEnd C start && leb (length (nameAt C start)) STATIC_NAME_LIMIT
+
+module _ (o : ByteOrder) (C : List ℕ) where
+  -- the three words lie inside C
+  unfoldable pub entryInside : ℕ → Bool
+  entryInside at = leb (at + 12) (length C)
+
+  unfoldable pub typeAt : ℕ → ℕ
+  typeAt at = entryType (entryAt o C at .bits)
+
+  unfoldable pub isStatic : ℕ → Bool
+  isStatic at = listsStatic (typeAt at)
+
+  -- the storage class names a section, and C has it
+  unfoldable pub hasSection : ℕ → Bool
+  hasSection class = ltb 0 (storageCode class) && ltb (codedSection o C (storageCode class)) (sectionCount o C)
+
+  unfoldable pub nameStart : ℕ → ℕ → ℕ
+  nameStart base at = base + entryAt o C at .name
+
+  -- a static can be listed: its name is read, its section is there, and there is room for it
+  unfoldable pub listable : List Static → ℕ → ℕ → Bool
+  listable L base at = nameSound C (nameStart base at) && (hasSection (storageClass (entryAt o C at .bits)) && ltb (length L) STATIC_LIMIT)
+
+  -- refusal 17 inside an entry
+  unfoldable pub entryFault : List Static → ℕ → ℕ → Bool
+  entryFault L base at = not (entryInside at) || (isStatic at && not (listable L base at))
+
+  -- the statics after the entry
+  unfoldable pub listAfter : ℕ → List Static → ℕ → ℕ → Bool → List Static
+  listAfter head L base at nested =
+      pickList (isStatic at) (L ++ (staticFrom C L (entryAt o C at) (nameStart base at) nested (namesLength head L) ∷ [])) L

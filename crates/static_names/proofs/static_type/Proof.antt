@@ -1,0 +1,13 @@
+-- By the section code. Assumes nothing.
+use Rattle.static_names.proofs.Names.{type-text, type-other}
+use Rattle.static_names.proofs.static_type.Statement.{statement}
+use Rattle.static_names.proofs.static_type.Tie as tie
+
+returns : tie.Need-returns
+returns c = type-text (c .before .before .args .s) (c .if1 .taken)
+
+returns-2 : tie.Need-returns-2
+returns-2 c = type-other (c .before .before .args .s) (c .if1 .left)
+
+pub static-type-spec : {M : Type 1} → statement M
+static-type-spec = tie.close (tie.spec returns returns-2)
