@@ -79,14 +79,14 @@ unfolding oddPlace
 sixteen-eight = refl
 
 -- .rodata 00 E0 12 34 56 E0 12 34 56, dummy E0123456: from 0 at 1, from 2 at 5
-abbrev pub twice : List ℕ
-twice = 0x00 ∷ 0xE0 ∷ 0x12 ∷ 0x34 ∷ 0x56 ∷ 0xE0 ∷ 0x12 ∷ 0x34 ∷ 0x56 ∷ []
+abbrev pub searched : List ℕ
+searched = 0x00 ∷ 0xE0 ∷ 0x12 ∷ 0x34 ∷ 0x56 ∷ 0xE0 ∷ 0x12 ∷ 0x34 ∷ 0x56 ∷ []
 
-pub dummy-from-0 : found Big twice 0 0xE0123456 ≡ 1
+pub dummy-from-0 : found Big searched 0 0xE0123456 ≡ 1
 unfolding found wordAt firstFrom number turned magnitude
 dummy-from-0 = refl
 
-pub dummy-from-2 : found Big twice 2 0xE0123456 ≡ 5
+pub dummy-from-2 : found Big searched 2 0xE0123456 ≡ 5
 unfolding found wordAt firstFrom number turned magnitude
 dummy-from-2 = refl
 
