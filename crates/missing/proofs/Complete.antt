@@ -1,10 +1,10 @@
 -- What refusal 11 leaves true, derived from its definition: no code of C and none of A is at fault, so no cause of any code holds. Assumes nothing.
-use Prim.Native.Nat.{ℕ, _%_, _≤_, _<_}
+use Prim.Native.Nat.{ℕ, _+_, _%_, _≤_, _<_}
 use mathlib.Core.Path.{_≡_, refl, sym, _∙_}
 use mathlib.Core.Bool.{Bool, true, false, not, _&&_, _||_}
 use mathlib.Core.List.{List}
 use native.Mathlib.Omega.{arith}
-use lib.ListN.{length}
+use lib.ListN.{length, take, drop}
 use lib.Dec.{eqb, leb}
 use borrow.Author.Tests.{lt-ltb, ltb-true, ltb-false, eq-eqb, eqb-true, le-leb}
 use Rattle.lists.specs.Ranges.{first}
@@ -14,9 +14,9 @@ use Rattle.places.specs.declared.Placing.the-variants.{Placed}
 use Rattle.places.specs.Spans.{spanSize, place}
 use Rattle.places.specs.Walk.{placing}
 use Rattle.places.proofs.Spans.{span-code-low}
-use Rattle.spans.specs.Spans.{coded, lineCount, isSpan, spanEnd}
+use Rattle.spans.specs.Spans.{coded, copied, lineCount, isSpan, spanEnd}
 use Rattle.spans.specs.Table.{endsBehind, spanFrom}
-use Rattle.spans.proofs.Spans.{span-code, span-some}
+use Rattle.spans.proofs.Spans.{span-code, span-some, copied-under}
 use Rattle.late_length.specs.Late.{lateRuns}
 use Rattle.missing.specs.declared.Missing.the-variants.{Nothing, InCompiled, InAssembled}
 use Rattle.missing.specs.Needed.{hasCode, heldBytes, targetCode, goesTo, isTarget, hasSpan, passes, isUneven, hasUneven, overruns, wantedC, missingC, wantedA, missingA, missing}
@@ -179,3 +179,9 @@ module _ (o : ByteOrder) (C A B : List ℕ) (p : placing o C B ≡ Placed) (e : 
     reginfo = λ h. got-a 6 (omega arith) (omega arith) (there-has o C 6 h);
     targets = λ a l u h. got-c (targetCode a) (target-range a l u .0) (target-range a l u .1) (target-wanted a l u h);
   }
+
+-- so under a span outside .bss block copying writes A's bytes, whatever the width
+module _ (o : ByteOrder) (C A B : List ℕ) (m : Complete o C A B) where
+  pub complete-under : (c k w j : ℕ) → c ≤ 3 → j < lineCount B → isSpan o C B c j ≡ true → place o C B j ≤ k → k + w ≤ spanEnd o C B j
+      → take w (drop k (copied o C A B c)) ≡ take w (drop k (coded o A c))
+  complete-under c k w j u h t l n = copied-under o C A B c k w j h t l n (m .compiled .inside c j u h t) (m .assembled .inside c j u h t)

@@ -2,7 +2,7 @@
 ghost use mathlib.Core.Path.{_≡_};
 ghost use mathlib.Core.Bool.{_&&_};
 ghost use Prim.Native.Nat.{_*_, _≤_, _<_};
-ghost use lib.Dec.{leb};
+ghost use lib.Dec.{eqb, leb};
 ghost use Rattle.lists.specs.Ranges.{first};
 ghost use Rattle.elf.specs.Bounds.{Named};
 ghost use Rattle.blocks.specs.Blocks.{blockCount};
@@ -136,6 +136,25 @@ fn has_uneven(
     false
 }
 
+// Whether a code is .text, and some line has.
+fn is_uneven_code(
+    order: ByteOrder,
+    compiled: &[u8],
+    file: &[u8],
+    table: &[u8],
+    places: &[u8],
+    blocks: usize,
+    code: u32,
+) -> bool
+    requires { ⌜ Laid order (now compiled) (now file) (now table) (now places) × (blocks ≡ blockCount (now file)) ⌝ }
+    ensures { λ r. ⌜ r ≡ (eqb code 1 && hasUneven order (now (compiled .entry)) (now (file .entry))) ⌝ }
+{
+    if code == scope::TEXT {
+        return has_uneven(order, compiled, file, table, places, blocks);
+    }
+    false
+}
+
 // Whether a span outside .bss passes the end of a section that holds so many bytes.
 fn is_overrun(
     order: ByteOrder,
@@ -193,8 +212,7 @@ fn is_missing_c(
     if is_overrun(order, compiled, file, table, places, blocks, code, held) {
         return true;
     }
-    let uneven = has_uneven(order, compiled, file, table, places, blocks);
-    if scope::both(code == scope::TEXT, uneven) {
+    if is_uneven_code(order, compiled, file, table, places, blocks, code) {
         return true;
     }
     if has_code(order, compiled, code) {
