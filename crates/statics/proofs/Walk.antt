@@ -130,7 +130,7 @@ entries-suc o C t i = sum-next (entryCount o C t) i
 
 -- a file that does not fail has all its entries completed
 module _ (o : ByteOrder) (C : List ℕ) (head : ℕ) (t : Tables) (i : ℕ) (f : fileFault o C head t i ≡ false) where
-  told-inside : descriptorInside o C t i ≡ true
+  pub told-inside : descriptorInside o C t i ≡ true
   unfolding fileFault
   told-inside = by-test (descriptorInside o C t i) (λ y. y) (λ n. both (rw n) f)
 
@@ -138,7 +138,7 @@ module _ (o : ByteOrder) (C : List ℕ) (head : ℕ) (t : Tables) (i : ℕ) (f :
   unfolding fileFault
   told-clear = rw told-inside at f
 
-  all-completed : completed o C head t i ≡ entryCount o C t i
+  pub all-completed : completed o C head t i ≡ entryCount o C t i
   unfolding completed
   all-completed = rw told-inside (clear-completed o C head (entriesStart o C t i) (namesStart o C t i) (listedBefore o C head t i) (entryCount o C t i) told-clear)
 
