@@ -5,16 +5,18 @@ use Prim.Native.Nat.{ℕ, _+_, _-_, _≤_, _<_}
 use mathlib.Core.Path.{_≡_, refl, sym, ap, _∙_}
 use mathlib.Core.Logic.{_⊎_, inl, inr, ⊎-elim}
 use mathlib.Core.Bool.{true, false}
-use mathlib.Core.List.{List}
+use mathlib.Core.List.{List, []}
 use native.Mathlib.Omega.{arith}
 use lib.ListN.{length, take, drop, getD, length-take, length-drop, List·getD-eq-default}
 use lib.Seq.{ext-getD, getD-take, getD-drop}
 use lib.Dec.{leb}
 use borrow.Author.Tests.{lt-ltb, le-ltb, ltb-true, eq-eqb, eqb-true, le-leb, leb-true}
 use Rattle.lists.specs.Ranges.{first, select}
-use Rattle.lists.proofs.Ranges.{by-test, both, by-lt, and-parts, and-true, first-is, first-none, first-high, first-to, count-all, select-length, select-at}
+use Rattle.lists.proofs.Ranges.{by-test, both, by-lt, and-parts, and-true, first-is, first-none, first-high, first-to, count-all, select-zero, select-length, select-at}
 use Rattle.lists.proofs.Windows.{length-part}
 use Rattle.fields.specs.declared.ByteOrder.{ByteOrder}
+use Rattle.scope.specs.Elf.{SHT_NOBITS}
+use Rattle.elf.specs.Readers.{section, contents, codedSection}
 use Rattle.places.specs.declared.Placing.the-variants.{Placed}
 use Rattle.places.specs.Spans.{spanCode, taken, place}
 use Rattle.places.specs.Walk.{placing}
@@ -24,7 +26,7 @@ use Rattle.spans.specs.Spans.{coded, lineCount, isSpan, spanEnd, covers,
 -- ---- parts of two lists
 
 -- lists that are as long and agree byte by byte
-part-same : (a b : List ℕ) (k w : ℕ) → length (take w (drop k a)) ≡ length (take w (drop k b))
+pub part-same : (a b : List ℕ) (k w : ℕ) → length (take w (drop k a)) ≡ length (take w (drop k b))
     → ((i : ℕ) → i < w → getD a (k + i) 0 ≡ getD b (k + i) 0) → take w (drop k a) ≡ take w (drop k b)
 part-same a b k w e each = ext-getD 0 (take w (drop k a)) (take w (drop k b)) e (λ i h.
     let u : i < w = omega (arith, rw (length-take w (drop k a)) at h) in
@@ -197,6 +199,16 @@ module _ (o : ByteOrder) (C A B : List ℕ) (c : ℕ) where
   copied-under k w j h t l u inC inA = part-same (copied o C A B c) (coded o A c) k w
       (length-part (copied o C A B c) k w (rw length-copied (omega arith)) ∙ sym (length-part (coded o A c) k w (omega arith)))
       (λ i g. copied-assembled (k + i) (omega arith) (covered-by o C B c (k + i) j h (covers-of o C B c (k + i) j t (omega arith) (omega arith))))
+
+  -- a section of type NOBITS holds no bytes, so none is copied there: .bss has that type (refusal 3)
+  pub coded-nobits : section o C (codedSection o C c) .«sh_type» ≡ SHT_NOBITS → coded o C c ≡ []
+  unfolding coded contents
+  coded-nobits e = rw (eq-eqb _ _ e)
+
+  pub copied-nobits : section o C (codedSection o C c) .«sh_type» ≡ SHT_NOBITS → copied o C A B c ≡ []
+  unfolding copied
+  copied-nobits e =
+      ap (λ (l : List ℕ). select (λ k. true) (copiedByte o C A B c) (length l)) (coded-nobits e) ∙ select-zero (λ k. true) (copiedByte o C A B c)
 
   -- from the end of the last span on, block copying changes nothing: what is searched there may be C's own bytes
   pub copied-past : placing o C B ≡ Placed → drop (lastEnd o C B c) (copied o C A B c) ≡ drop (lastEnd o C B c) (coded o C c)

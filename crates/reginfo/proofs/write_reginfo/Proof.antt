@@ -4,7 +4,7 @@ use Rattle.reginfo.specs.Reginfo.{joined}
 use Rattle.reginfo.proofs.Reginfo.{joining-none, joining-next, joining-end}
 use borrow.Author.Needs.{needs}
 use native.Mathlib.Omega.{arith}
-use Prim.Native.Nat.{ℕ, _+_, _-_, _≤_}
+use Prim.Native.Nat.{_-_, _≤_}
 use mathlib.Core.Path.{_≡_, refl}
 use lib.ListN.{length, take, length-set}
 use denote.Ref.{now}
