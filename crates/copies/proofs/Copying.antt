@@ -15,10 +15,10 @@ use Rattle.elf.specs.Readers.{sectionCount, contents}
 use Rattle.spans.specs.Spans.{coded, lineCount, isSpan, copied}
 use Rattle.spans.specs.Table.{spanCount}
 use Rattle.spans.proofs.Spans.{length-copied, covers-other, covered-none, copied-compiled}
-use Rattle.copies.specs.declared.Run.{Run}
-use Rattle.copies.specs.Runs.{runFrom, runLength, runSource, runBytes, runAt}
+use Rattle.runs.specs.declared.Run.{Run}
+use Rattle.runs.specs.Runs.{runFrom, runLength, runSource, runBytes, runAt}
 use Rattle.copies.specs.Copying.{Copying, Writing, Wrote}
-use Rattle.copies.proofs.Runs.{IsRun, is-run, source-fits, run-part}
+use Rattle.runs.proofs.Runs.{IsRun, is-run, source-fits, run-part}
 
 -- ---- one run
 

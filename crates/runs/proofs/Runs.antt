@@ -22,9 +22,9 @@ use Rattle.spans.specs.Spans.{coded, lineCount, spanEnd, isCovered, copiedByte,
 use Rattle.spans.specs.Table.{spanFrom, nextSpan}
 use Rattle.spans.proofs.Spans.{part-same, length-copied, copied-at}
 use Rattle.spans.proofs.Table.{told-none, told-span, from-span, from-end, from-before, from-none, from-over, from-gap}
-use Rattle.copies.specs.declared.Run.{Run}
-use Rattle.copies.specs.declared.Run.the-variants.{Compiled, Assembled}
-use Rattle.copies.specs.Runs.{runFrom, runLength, runSource, runBytes, runBy, runAt, runsFrom, runs, EndsBy}
+use Rattle.runs.specs.declared.Run.{Run}
+use Rattle.runs.specs.declared.Run.the-variants.{Compiled, Assembled}
+use Rattle.runs.specs.Runs.{runFrom, runLength, runSource, runBytes, runBy, runAt, runsFrom, runs, EndsBy}
 
 by-next {ℓ} : {A : Type ℓ} (s : NextSpan) → (s ≡ NoSpan → A) → ((x y : ℕ) → s ≡ Span x y → A) → A
 by-next NoSpan none some = none refl

@@ -12,8 +12,8 @@ use Rattle.spans.specs.declared.NextSpan.{NextSpan}
 use Rattle.spans.specs.declared.NextSpan.the-variants.{NoSpan, Span}
 use Rattle.spans.specs.Spans.{lineCount, isSpan, spanEnd}
 use Rattle.spans.specs.Table.{nextSpan}
-use Rattle.copies.specs.declared.Run.{Run}
-use Rattle.copies.specs.declared.Run.the-variants.{Compiled, Assembled}
+use Rattle.runs.specs.declared.Run.{Run}
+use Rattle.runs.specs.declared.Run.the-variants.{Compiled, Assembled}
 
 -- where a run begins in its source, and how long it is
 unfoldable pub runFrom : Run → ℕ
