@@ -1,7 +1,7 @@
 -- The laws of writing a section run by run. Assumes nothing.
 use Prim.Native.Nat.{ℕ, _+_, _≤_, _<_}
 use mathlib.Core.Logic.{_≢_}
-use mathlib.Core.Bool.{false}
+use mathlib.Core.Bool.{true, false}
 use mathlib.Core.Path.{_≡_, refl, sym, ap, _∙_}
 use mathlib.Core.List.{List}
 use native.Mathlib.Omega.{arith}
@@ -11,14 +11,30 @@ use Rattle.lists.specs.Windows.{spliced}
 use Rattle.lists.proofs.Ranges.{by-test, count-lt, count-hit}
 use Rattle.lists.proofs.Windows.{length-part, length-spliced, spliced-nil, spliced-then}
 use Rattle.fields.specs.declared.ByteOrder.{ByteOrder}
-use Rattle.elf.specs.Readers.{sectionCount, contents}
+use Rattle.elf.specs.Readers.{sectionCount, contents, codedSection}
+use Rattle.places.specs.declared.Placing.the-variants.{Placed}
+use Rattle.places.specs.Walk.{placing}
 use Rattle.spans.specs.Spans.{coded, lineCount, isSpan, copied}
 use Rattle.spans.specs.Table.{spanCount}
-use Rattle.spans.proofs.Spans.{length-copied, covers-other, covered-none, copied-compiled}
+use Rattle.spans.proofs.Spans.{span-some, length-copied, covers-other, covered-none, copied-compiled}
 use Rattle.runs.specs.declared.Run.{Run}
-use Rattle.runs.specs.Runs.{runFrom, runLength, runSource, runBytes, runAt}
-use Rattle.copies.specs.Copying.{Copying, Writing, Wrote}
+use Rattle.runs.specs.Runs.{runFrom, runLength, runSource, runBytes, runAt, EndsBy}
+use Rattle.copies.specs.Copying.{Inside, Copying, Writing, Wrote}
 use Rattle.runs.proofs.Runs.{IsRun, is-run, source-fits, run-part}
+
+-- ---- what refusal 11 leaves
+
+-- no span passes the bytes that C and A hold in the section of code c; what is held counts only where the section is there
+inside-one : (o : ByteOrder) (C B : List ℕ) (p : placing o C B ≡ Placed) (c held j : ℕ) → EndsBy o C B c held → j < lineCount B → isSpan o C B c j ≡ true → 0 < held
+inside-one o C B p c held j ends h t = omega (arith, span-some o C B p c j h t, ends j h t)
+
+pub inside-held : (o : ByteOrder) (C A B : List ℕ) (p : placing o C B ≡ Placed) (c inC inA : ℕ) → EndsBy o C B c inC → EndsBy o C B c inA
+    → (0 < inC → inC ≤ length (coded o C c)) → (0 < inA → (codedSection o A c < sectionCount o A) × (inA ≤ length (coded o A c))) → Inside o C A B c
+inside-held o C A B p c inC inA endsC endsA heldC heldA = record {
+  found = λ j h t. heldA (inside-one o C B p c inA j endsA h t) .0;
+  target = λ j h t. omega (arith, endsC j h t, heldC (inside-one o C B p c inC j endsC h t));
+  source = λ j h t. omega (arith, endsA j h t, heldA (inside-one o C B p c inA j endsA h t) .1);
+}
 
 -- ---- one run
 
