@@ -1,24 +1,40 @@
 -- The laws of writing a section run by run. Assumes nothing.
 use Prim.Native.Nat.{ℕ, _+_, _≤_, _<_}
 use mathlib.Core.Logic.{_≢_}
-use mathlib.Core.Bool.{false}
-use mathlib.Core.Path.{_≡_, refl, sym, ap, _∙_}
+use mathlib.Core.Bool.{true, false}
+use mathlib.Core.Path.{_≡_, sym, ap, _∙_}
 use mathlib.Core.List.{List}
 use native.Mathlib.Omega.{arith}
-use lib.ListN.{length, take, drop}
-use lib.Seq.{ext-getD, take-add, take-all, length-take-le}
+use lib.ListN.{length}
+use lib.Seq.{ext-getD}
 use Rattle.lists.specs.Windows.{spliced}
 use Rattle.lists.proofs.Ranges.{by-test, count-lt, count-hit}
-use Rattle.lists.proofs.Windows.{length-part, length-spliced, spliced-nil, spliced-then}
 use Rattle.fields.specs.declared.ByteOrder.{ByteOrder}
-use Rattle.elf.specs.Readers.{sectionCount, contents}
+use Rattle.elf.specs.Readers.{sectionCount, contents, codedSection}
+use Rattle.places.specs.declared.Placing.the-variants.{Placed}
+use Rattle.places.specs.Walk.{placing}
 use Rattle.spans.specs.Spans.{coded, lineCount, isSpan, copied}
 use Rattle.spans.specs.Table.{spanCount}
-use Rattle.spans.proofs.Spans.{length-copied, covers-other, covered-none, copied-compiled}
-use Rattle.copies.specs.declared.Run.{Run}
-use Rattle.copies.specs.Runs.{runFrom, runLength, runSource, runBytes, runAt}
-use Rattle.copies.specs.Copying.{Copying, Writing, Wrote}
-use Rattle.copies.proofs.Runs.{IsRun, is-run, source-fits, run-part}
+use Rattle.spans.proofs.Spans.{span-some, length-copied, covers-other, covered-none, copied-compiled}
+use Rattle.runs.specs.declared.Run.{Run}
+use Rattle.runs.specs.Runs.{runFrom, runLength, runSource, runBytes, runAt, EndsBy}
+use Rattle.copies.specs.Copying.{Inside, Copying, Writing, Wrote}
+use Rattle.runs.proofs.Pieces.{Begun, begun-next, begun-end}
+use Rattle.runs.proofs.Runs.{IsRun, is-run, source-fits, run-part}
+
+-- ---- what refusal 11 leaves
+
+-- no span passes the bytes that C and A hold in the section of code c; what is held counts only where the section is there
+inside-one : (o : ByteOrder) (C B : List ℕ) (p : placing o C B ≡ Placed) (c held j : ℕ) → EndsBy o C B c held → j < lineCount B → isSpan o C B c j ≡ true → 0 < held
+inside-one o C B p c held j ends h t = omega (arith, span-some o C B p c j h t, ends j h t)
+
+pub inside-held : (o : ByteOrder) (C A B : List ℕ) (p : placing o C B ≡ Placed) (c inC inA : ℕ) → EndsBy o C B c inC → EndsBy o C B c inA
+    → (0 < inC → inC ≤ length (coded o C c)) → (0 < inA → (codedSection o A c < sectionCount o A) × (inA ≤ length (coded o A c))) → Inside o C A B c
+inside-held o C A B p c inC inA endsC endsA heldC heldA = record {
+  found = λ j h t. heldA (inside-one o C B p c inA j endsA h t) .0;
+  target = λ j h t. omega (arith, endsC j h t, heldC (inside-one o C B p c inC j endsC h t));
+  source = λ j h t. omega (arith, endsA j h t, heldA (inside-one o C B p c inA j endsA h t) .1);
+}
 
 -- ---- one run
 
@@ -45,15 +61,6 @@ module _ (o : ByteOrder) (C B : List ℕ) (c n : ℕ) (table S T : List ℕ) (w 
 
 -- ---- all runs, one behind the other
 
--- the first k bytes of the section of code c are written at `at`
-pub record Copied (o : ByteOrder) (C A B : List ℕ) (c at : ℕ) (before : List ℕ) (k : ℕ) (after : List ℕ) : Type 0 where
-  pub few : k ≤ length (coded o C c)
-  pub long : length after ≡ length before
-  pub bytes : after ≡ spliced before at (take k (copied o C A B c))
-
-pub copied-none : (o : ByteOrder) (C A B : List ℕ) (c at : ℕ) (before : List ℕ) → Copied o C A B c at before 0 before
-copied-none o C A B c at before = record { few = omega arith; long = refl; bytes = sym (spliced-nil before at) }
-
 module _ (o : ByteOrder) (C A B : List ℕ) (c n : ℕ) (table : List ℕ) (t s : ℕ) (w : Copying o C A B c n table t s) where
   -- the bytes of the two sections
   pub target-is : (S : List ℕ) → S ≡ contents o C t → S ≡ coded o C c
@@ -68,8 +75,7 @@ module _ (o : ByteOrder) (C A B : List ℕ) (c n : ℕ) (table : List ℕ) (t s 
     pub writing : Writing o C B c n table S T
     writing = rw (target-is S mine, source-is T other) (record { rows = w .rows; target = w .inside .target; source = w .inside .source })
 
-    module _ (at k r : ℕ) (before m after : List ℕ) (room : at + length (coded o C c) ≤ length before) (h : k < length S)
-        (so-far : Copied o C A B c at before k m) (step : Wrote o C B c S T at k r m after) where
+    module _ (at k r : ℕ) (m after : List ℕ) (h : k < length S) (step : Wrote o C B c S T at k r m after) where
       l : k < length (coded o C c)
       l = rw (target-is S mine) at h
 
@@ -79,36 +85,24 @@ module _ (o : ByteOrder) (C A B : List ℕ) (c n : ℕ) (table : List ℕ) (t s 
       run : IsRun o C B c (length (coded o C c)) k (runAt o C B c (length (coded o C c)) k)
       run = is-run o C B (w .rows .placed) c (length (coded o C c)) k (w .inside .target) l
 
-      -- a turn goes on
+      -- a turn goes on, and adds the run at k
       pub copied-more : k < r
       copied-more = omega (arith, wrote .next, run .some)
 
-      pub copied-few : r ≤ length (coded o C c)
-      copied-few = omega (arith, wrote .next, run .inside)
-
-      pub copied-next : Copied o C A B c at before r after
-      copied-next =
-          let W : List ℕ = copied o C A B c in
+      pub copied-next : (before : List ℕ) → at + length (coded o C c) ≤ length before → Begun (copied o C A B c) at before k m
+          → Begun (copied o C A B c) at before r after
+      copied-next before room so-far =
           let n : ℕ = runLength (runAt o C B c (length (coded o C c)) k) in
-          let a : length (take k W) ≡ k = length-take-le k W (rw (length-copied o C A B c) (so-far .few)) in
-          let b : length (take n (drop k W)) ≡ n = length-part W k n (rw (length-copied o C A B c) (run .inside)) in
-          let f : at + k ≡ at + length (take k W) = ap (λ (x : ℕ). at + x) (sym a) in
-          let g : at + k + length (take n (drop k W)) ≤ length before = omega (arith, b, run .inside) in
-          let e : after ≡ spliced before at (take r W) =
-          wrote .bytes
-          ∙ ap (spliced m (at + k)) (run-part o C A B (w .rows .placed) c (w .inside .target) (w .inside .source) k l)
-          ∙ ap (λ (x : List ℕ). spliced x (at + k) (take n (drop k W))) (so-far .bytes)
-          ∙ spliced-then before at (take k W) (take n (drop k W)) (at + k) f g
-          ∙ ap (spliced before at) (sym (take-add k n W) ∙ ap (λ (x : ℕ). take x W) (sym (wrote .next))) in
-          let q : length (take r W) ≡ r = length-take-le r W (rw (length-copied o C A B c) copied-few) in
-          let u : at + length (take r W) ≤ length before = omega (arith, q, copied-few) in
-          record { few = copied-few; long = ap length e ∙ length-spliced before at (take r W) u; bytes = e }
+          let f : at + length (copied o C A B c) ≤ length before = rw (length-copied o C A B c) room in
+          let g : k + n ≤ length (copied o C A B c) = rw (length-copied o C A B c) (run .inside) in
+          rw (wrote .next) (begun-next (copied o C A B c) at before k m so-far n after f g
+          (wrote .bytes ∙ ap (spliced m (at + k)) (run-part o C A B (w .rows .placed) c (w .inside .target) (w .inside .source) k l)))
 
-  pub copied-end : (S : List ℕ) (at k : ℕ) (before after : List ℕ) → S ≡ contents o C t → length S ≤ k → Copied o C A B c at before k after
+  pub copied-end : (S : List ℕ) (at k : ℕ) (before after : List ℕ) → S ≡ contents o C t → length S ≤ k → Begun (copied o C A B c) at before k after
       → after ≡ spliced before at (copied o C A B c)
   copied-end S at k before after mine h so-far =
       let g : length (copied o C A B c) ≤ k = rw (length-copied o C A B c, ← target-is S mine) h in
-      so-far .bytes ∙ ap (spliced before at) (take-all k (copied o C A B c) g)
+      begun-end (copied o C A B c) at before k after so-far g
 
   -- ---- a section without spans is C's, and for one with spans A has the section
 

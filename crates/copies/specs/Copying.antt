@@ -10,7 +10,7 @@ use Rattle.elf.specs.Readers.{sectionCount, codedSection}
 use Rattle.elf.specs.Bounds.{Headed}
 use Rattle.spans.specs.Spans.{coded, lineCount, isSpan}
 use Rattle.spans.specs.Table.{Rows}
-use Rattle.copies.specs.Runs.{runLength, runBytes, runAt, EndsBy}
+use Rattle.runs.specs.Runs.{runLength, runBytes, runAt, EndsBy}
 
 -- what refusal 11 leaves true of the spans of code c: A has the section of each, and each ends inside C's and A's
 pub record Inside (o : ByteOrder) (C A B : List ℕ) (c : ℕ) : Type 0 where

@@ -1,47 +1,15 @@
-// A section after block copying, as runs: parts of C's section and of A's, one behind the other, each found by halves in the table of the section's spans.
-// A run equals `runAt` of specs/Runs.antt; what is written equals `copied` of the crate spans (document 01, "Merge: ... Blocks are copied at their own offsets").
+// A section after block copying, written run by run into a slice: what is written equals `copied` of the crate spans (document 01, "Merge: ... Blocks are
+// copied at their own offsets").
 ghost use mathlib.Core.Path.{_≡_};
 ghost use Prim.Native.Nat.{_+_, _≤_, _<_};
 ghost use lib.ListN.{length, take, drop};
 ghost use Rattle.lists.specs.Windows.{spliced};
 ghost use Rattle.elf.specs.Readers.{sectionCount};
 ghost use Rattle.spans.specs.Spans.{coded, copied};
-ghost use Rattle.spans.specs.Table.{Rows};
-ghost use Rattle.copies.specs.Runs.{runFrom, runLength, runSource, runBytes, runAt, EndsBy};
+ghost use Rattle.runs.specs.Runs.{runFrom, runLength, runSource, runBytes};
 ghost use Rattle.copies.specs.Copying.{Copying, Writing, Wrote};
 use fields::ByteOrder;
-use spans::NextSpan;
-
-// A part of a section's final bytes: where it begins in C's section or in A's, and how long it is.
-pub enum Run {
-    Compiled(usize, usize),
-    Assembled(usize, usize),
-}
-
-// The run at offset k of a section of `size` bytes. `table` has the n rows of the section's code.
-pub fn run_at(
-    order: ByteOrder,
-    compiled: &[u8],
-    file: &[u8],
-    code: u32,
-    table: &[u8],
-    n: usize,
-    size: usize,
-    k: usize,
-) -> Run
-    requires { ⌜ Rows order (now compiled) (now file) code n (now table) × EndsBy order (now compiled) (now file) code size × (k < size) ⌝ }
-    ensures { λ r. ⌜ r ≡ runAt order (now (compiled .entry)) (now (file .entry)) code size k ⌝ }
-{
-    match spans::next_span(order, compiled, file, code, table, n, k) {
-        NextSpan::NoSpan => Run::Compiled(k, size - k),
-        NextSpan::Span(place, length) => {
-            if k < place {
-                return Run::Compiled(k, place - k);
-            }
-            Run::Assembled(k, place + length - k)
-        }
-    }
-}
+use runs::Run;
 
 // Writes a part of some bytes at `at`, and answers how long it is.
 fn write_part(out: &mut [u8], at: usize, bytes: &[u8], from: usize, size: usize) -> usize
@@ -80,7 +48,7 @@ fn write_run(
     requires { ⌜ Writing order (now compiled) (now file) code n (now table) (now target) (now source) × (k < length (now target)) × (at + length (now target) ≤ length (now out)) ⌝ }
     ensures { λ r. ⌜ Wrote order (now (compiled .entry)) (now (file .entry)) code (now (target .entry)) (now (source .entry)) at k r (now (out .entry)) (now (out .exit)) ⌝ }
 {
-    let run = run_at(order, compiled, file, code, table, n, target.len(), k);
+    let run = runs::run_at(order, compiled, file, code, table, n, target.len(), k);
     k + write_bytes_of(out, at + k, target, source, run)
 }
 

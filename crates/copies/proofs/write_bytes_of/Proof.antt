@@ -1,6 +1,6 @@
 -- `copies::write_bytes_of` meets its contract: each kind of run names its source. Assumes nothing.
-use Rattle.copies.specs.Runs.{runFrom, runLength, runSource, runBytes}
-use Rattle.copies.proofs.Runs.{told-fits, told-room, told-wrote}
+use Rattle.runs.specs.Runs.{runFrom, runLength, runSource, runBytes}
+use Rattle.runs.proofs.Runs.{told-fits, told-room, told-wrote}
 use denote.Ref.{now}
 use borrow.Author.Needs.{needs}
 use Rattle.copies.proofs.write_bytes_of.Statement.{statement}

@@ -1,5 +1,7 @@
 -- `copies::write_spans` meets its contract: before each turn the first k bytes of the section are written, and a turn adds the run at k. Assumes nothing.
-use Rattle.copies.proofs.Copying.{Copied, copied-none, target-is, writing, copied-more, copied-next, copied-end}
+use Rattle.copies.proofs.Copying.{target-is, writing, copied-more, copied-next, copied-end}
+use Rattle.runs.proofs.Pieces.{Begun, begun-none}
+use Rattle.spans.specs.Spans.{copied}
 use borrow.Author.Needs.{needs}
 use native.Mathlib.Omega.{arith}
 use Prim.Native.Nat.{_-_}
@@ -11,7 +13,7 @@ use Rattle.copies.proofs.write_spans.Tie as tie
 
 abbrev Inv-loop : tie.InvT-loop
 Inv-loop out₀ at order compiled assembled file code table n target source target-bytes source-bytes k₀ out k =
-    Copied order compiled assembled file code at out₀ k out
+    Begun (copied order compiled assembled file code) at out₀ k out
 
 abbrev μ-loop : tie.MeasureT-loop
 μ-loop out₀ at order compiled assembled file code table n target source target-bytes source-bytes k₀ out k = length target-bytes - k
@@ -25,7 +27,7 @@ contents-of-requires-2 c κs = search needs
 loop-holds : tie.Need-loop-holds Inv-loop μ-loop
 loop-holds c =
     let a = c .before .before .before .before .before .before .before .args in
-    copied-none (a .order) (now (a .compiled)) (now (a .assembled)) (now (a .file)) (a .code) (a .at) (now (a .out))
+    begun-none (copied (a .order) (now (a .compiled)) (now (a .assembled)) (now (a .file)) (a .code)) (a .at) (now (a .out))
 
 write-run-requires : tie.Need-write-run-requires Inv-loop μ-loop
 write-run-requires c κs =
@@ -46,14 +48,14 @@ loop-less c =
     let a = c .before .before .before .before .before .before .before .before .before .before .before .before .before .args in
     let p = c .before .before .before .before .before .before .before .before .before .before .before .before .before .pre in
     let l = c .before .before .before .before .before .loop in
-    omega (arith, copied-more (a .order) (now (a .compiled)) (now (a .assembled)) (now (a .file)) (a .code) (a .n) (now (a .table)) (a .target) (a .source) (p .0) _ _ (c .before .before .before .before .before .before .before .contents-of .ensures) (c .before .before .before .before .before .before .contents-of2 .ensures) (a .at) (l .k) _ (now (a .out)) _ _ (p .2) (c .before .before .before .before .loop-test .taken) (l .inv) (c .before .before .write-run .ensures))
+    omega (arith, copied-more (a .order) (now (a .compiled)) (now (a .assembled)) (now (a .file)) (a .code) (a .n) (now (a .table)) (a .target) (a .source) (p .0) _ _ (c .before .before .before .before .before .before .before .contents-of .ensures) (c .before .before .before .before .before .before .contents-of2 .ensures) (a .at) (l .k) _ _ _ (c .before .before .before .before .loop-test .taken) (c .before .before .write-run .ensures))
 
 loop-again : tie.Need-loop-again Inv-loop μ-loop
 loop-again c =
     let a = c .before .before .before .before .before .before .before .before .before .before .before .before .before .args in
     let p = c .before .before .before .before .before .before .before .before .before .before .before .before .before .pre in
     let l = c .before .before .before .before .before .loop in
-    copied-next (a .order) (now (a .compiled)) (now (a .assembled)) (now (a .file)) (a .code) (a .n) (now (a .table)) (a .target) (a .source) (p .0) _ _ (c .before .before .before .before .before .before .before .contents-of .ensures) (c .before .before .before .before .before .before .contents-of2 .ensures) (a .at) (l .k) _ (now (a .out)) _ _ (p .2) (c .before .before .before .before .loop-test .taken) (l .inv) (c .before .before .write-run .ensures)
+    copied-next (a .order) (now (a .compiled)) (now (a .assembled)) (now (a .file)) (a .code) (a .n) (now (a .table)) (a .target) (a .source) (p .0) _ _ (c .before .before .before .before .before .before .before .contents-of .ensures) (c .before .before .before .before .before .before .contents-of2 .ensures) (a .at) (l .k) _ _ _ (c .before .before .before .before .loop-test .taken) (c .before .before .write-run .ensures) (now (a .out)) (p .2) (l .inv)
 
 same-length : tie.Need-same-length Inv-loop μ-loop
 same-length c = c .before .loop .inv .long

@@ -1,11 +1,11 @@
--- `copies::run_at` meets its contract: what is found in the table decides the run as in the definition, and the span found ends behind k and inside the section,
+-- `runs::run_at` meets its contract: what is found in the table decides the run as in the definition, and the span found ends behind k and inside the section,
 -- so that no sum or difference wraps. Assumes nothing.
-use Rattle.copies.proofs.Runs.{found-none, found-span, run-clear, run-gap, run-under, span-behind, span-inside}
+use Rattle.runs.proofs.Runs.{found-none, found-span, run-clear, run-gap, run-under, span-behind, span-inside}
 use native.Mathlib.Omega.{arith}
 use denote.Ref.{now}
 use borrow.Author.Needs.{needs}
-use Rattle.copies.proofs.run_at.Statement.{statement}
-use Rattle.copies.proofs.run_at.Tie as tie
+use Rattle.runs.proofs.run_at.Statement.{statement}
+use Rattle.runs.proofs.run_at.Tie as tie
 
 next-span-requires : tie.Need-next-span-requires
 next-span-requires c κs = search needs

@@ -1,18 +1,16 @@
 -- The laws of runs: a run is not empty and stays inside the section, no byte of a run of C's lies under a span and every byte of a run of A's does, so its bytes
 -- are those of the section after block copying; and the runs one behind the other are that section. Assumes nothing.
-use Prim.Native.Nat.{ℕ, zero, suc, _+_, _-_, _≤_, _<_}
+use Prim.Native.Nat.{ℕ, _+_, _-_, _≤_, _<_}
 use mathlib.Core.Path.{_≡_, refl, sym, _∙_}
 use mathlib.Core.Bool.{Bool, true, false}
-use mathlib.Core.List.{List, []}
+use mathlib.Core.List.{List}
 use native.Mathlib.Omega.{arith}
-use lib.ListN.{length, take, drop, getD, drop-of-length-le, take-append-drop}
-use lib.Seq.{drop-drop}
+use lib.ListN.{length, take, drop, getD}
 use borrow.Author.Tests.{lt-ltb, le-ltb}
 use Rattle.lists.specs.Windows.{spliced}
 use Rattle.lists.specs.Records.{flat}
 use Rattle.lists.proofs.Ranges.{both, by-lt}
 use Rattle.lists.proofs.Windows.{length-part}
-use Rattle.lists.proofs.Records.{flat-none, flat-cons}
 use Rattle.fields.specs.declared.ByteOrder.{ByteOrder}
 use Rattle.places.specs.declared.Placing.the-variants.{Placed}
 use Rattle.places.specs.Walk.{placing}
@@ -22,9 +20,10 @@ use Rattle.spans.specs.Spans.{coded, lineCount, spanEnd, isCovered, copiedByte,
 use Rattle.spans.specs.Table.{spanFrom, nextSpan}
 use Rattle.spans.proofs.Spans.{part-same, length-copied, copied-at}
 use Rattle.spans.proofs.Table.{told-none, told-span, from-span, from-end, from-before, from-none, from-over, from-gap}
-use Rattle.copies.specs.declared.Run.{Run}
-use Rattle.copies.specs.declared.Run.the-variants.{Compiled, Assembled}
-use Rattle.copies.specs.Runs.{runFrom, runLength, runSource, runBytes, runBy, runAt, runsFrom, runs, EndsBy}
+use Rattle.runs.specs.declared.Run.{Run}
+use Rattle.runs.specs.declared.Run.the-variants.{Compiled, Assembled}
+use Rattle.runs.specs.Runs.{runFrom, runLength, runSource, runBytes, runBy, runAt, runs, EndsBy}
+use Rattle.runs.proofs.Pieces.{pieces-whole}
 
 by-next {ℓ} : {A : Type ℓ} (s : NextSpan) → (s ≡ NoSpan → A) → ((x y : ℕ) → s ≡ Span x y → A) → A
 by-next NoSpan none some = none refl
@@ -174,26 +173,8 @@ module _ (o : ByteOrder) (C A B : List ℕ) (p : placing o C B ≡ Placed) (c : 
         (length-part (runSource (coded o C c) (coded o A c) r) k (runLength r) f ∙ sym (length-part (copied o C A B c) k (runLength r) g))
         (λ i l. run-byte i l ∙ sym (copied-at o C A B c (k + i) (omega (arith, w .inside)))))
 
-  -- ---- all runs
-
-  none-left : (k : ℕ) → length (coded o C c) ≤ k → [] ≡ drop k (copied o C A B c)
-  none-left k h =
-      let g : length (copied o C A B c) ≤ k = rw (length-copied o C A B c) h in
-      sym (drop-of-length-le (copied o C A B c) g)
-
-  runs-rest : (n k : ℕ) → length (coded o C c) ≤ k + n
-      → flat (runBytes (coded o C c) (coded o A c)) (runsFrom o C B c (length (coded o C c)) k n) ≡ drop k (copied o C A B c)
-  unfolding runsFrom
-  runs-rest zero k h = flat-none _ ∙ none-left k (omega arith)
-  runs-rest (suc n) k h = by-lt k (length (coded o C c))
-      (λ l.
-      let r = runAt o C B c (length (coded o C c)) k in
-      let w = is-run o C B p c (length (coded o C c)) k target l in
-      rw (lt-ltb _ _ l, flat-cons, run-part k l, runs-rest n (k + runLength r) (omega (arith, w .some)), ← drop-drop (runLength r) k (copied o C A B c))
-      (take-append-drop (runLength r) (drop k (copied o C A B c))))
-      (λ l. rw (le-ltb _ _ l) (flat-none _ ∙ none-left k l))
-
   -- the runs of a section, one behind the other, are the section after block copying
   pub runs-copied : flat (runBytes (coded o C c) (coded o A c)) (runs o C B c (length (coded o C c))) ≡ copied o C A B c
   unfolding runs
-  runs-copied = runs-rest (length (coded o C c)) 0 (omega arith)
+  runs-copied = pieces-whole (runBytes (coded o C c) (coded o A c)) runLength (runAt o C B c (length (coded o C c))) (copied o C A B c) (length (coded o C c))
+      (length-copied o C A B c) (λ k h. is-run o C B p c (length (coded o C c)) k target h .some) run-part

@@ -1,19 +1,19 @@
 -- A section after block copying, as runs. A run is a part of C's section or of A's; it stands at the same offset in the result, since blocks are copied at their
 -- own offsets (document 01, "Merge"). C is the compiled object, A the assembled one, B the block file.
-use Prim.Native.Nat.{ℕ, zero, suc, _+_, _-_, _≤_, _<_}
+use Prim.Native.Nat.{ℕ, _+_, _-_, _≤_, _<_}
 use mathlib.Core.Path.{_≡_}
 use mathlib.Core.Bool.{Bool, true, false}
-use mathlib.Core.List.{List, [], _∷_}
+use mathlib.Core.List.{List}
 use lib.ListN.{take, drop}
 use lib.Dec.{ltb}
-use Rattle.lists.specs.Ranges.{pickList}
 use Rattle.fields.specs.declared.ByteOrder.{ByteOrder}
 use Rattle.spans.specs.declared.NextSpan.{NextSpan}
 use Rattle.spans.specs.declared.NextSpan.the-variants.{NoSpan, Span}
 use Rattle.spans.specs.Spans.{lineCount, isSpan, spanEnd}
 use Rattle.spans.specs.Table.{nextSpan}
-use Rattle.copies.specs.declared.Run.{Run}
-use Rattle.copies.specs.declared.Run.the-variants.{Compiled, Assembled}
+use Rattle.runs.specs.Pieces.{piecesFrom}
+use Rattle.runs.specs.declared.Run.{Run}
+use Rattle.runs.specs.declared.Run.the-variants.{Compiled, Assembled}
 
 -- where a run begins in its source, and how long it is
 unfoldable pub runFrom : Run → ℕ
@@ -46,14 +46,9 @@ module _ (o : ByteOrder) (C B : List ℕ) (c m : ℕ) where
   unfoldable pub runAt : ℕ → Run
   runAt k = runBy m k (nextSpan o C B c k)
 
-  -- the runs from offset k on, n at most
-  unfoldable pub runsFrom : ℕ → ℕ → List Run
-  runsFrom k zero = []
-  runsFrom k (suc n) = pickList (ltb k m) (runAt k ∷ runsFrom (k + runLength (runAt k)) n) []
-
   -- the runs of the section: none is empty, so there are no more than bytes
   unfoldable pub runs : List Run
-  runs = runsFrom 0 m
+  runs = piecesFrom runAt runLength m 0 m
 
   -- every span of code c ends at m at the latest
   abbrev pub EndsBy : Type 0
