@@ -1,28 +1,25 @@
 -- The laws of spans and of block copying. Spans of one section ascend and do not overlap, because 8 passed (the crate places, `ends-ascend`), so an
 -- offset lies under one span at most, and from the end of the last span on nothing is copied. Each law about bytes is stated over the width. Assumes
 -- nothing.
-use Prim.Native.Nat.{ℕ, zero, suc, _+_, _-_, _*_, _%_, _≤_, _<_}
+use Prim.Native.Nat.{ℕ, _+_, _-_, _≤_, _<_}
 use mathlib.Core.Path.{_≡_, refl, sym, ap, _∙_}
 use mathlib.Core.Logic.{_⊎_, inl, inr, ⊎-elim}
-use mathlib.Core.Bool.{Bool, true, false, cond, _&&_}
+use mathlib.Core.Bool.{true, false}
 use mathlib.Core.List.{List}
-use native.Mathlib.Numerals.{add-one}
 use native.Mathlib.Omega.{arith}
 use lib.ListN.{length, take, drop, getD, length-take, length-drop, List·getD-eq-default}
 use lib.Seq.{ext-getD, getD-take, getD-drop}
-use lib.Dec.{eqb, ltb, leb}
-use borrow.Author.Tests.{lt-ltb, le-ltb, ltb-true, ltb-false, eq-eqb, eqb-true, le-leb, lt-leb, leb-true}
-use Rattle.lists.specs.Ranges.{first, count, select}
-use Rattle.lists.proofs.Ranges.{by-test, both, by-lt, and-parts, and-true, first-is, first-none, none-first, first-high, first-to, first-unique, count-all, select-length, select-at}
+use lib.Dec.{leb}
+use borrow.Author.Tests.{lt-ltb, le-ltb, ltb-true, eq-eqb, eqb-true, le-leb, leb-true}
+use Rattle.lists.specs.Ranges.{first, select}
+use Rattle.lists.proofs.Ranges.{by-test, both, by-lt, and-parts, and-true, first-is, first-none, first-high, first-to, count-all, select-length, select-at}
 use Rattle.lists.proofs.Windows.{length-part}
 use Rattle.fields.specs.declared.ByteOrder.{ByteOrder}
-use Rattle.blocks.specs.Blocks.{blockCount}
 use Rattle.places.specs.declared.Placing.the-variants.{Placed}
-use Rattle.places.specs.Spans.{spanCode, spanSize, taken, place, endAt}
+use Rattle.places.specs.Spans.{spanCode, taken, place}
 use Rattle.places.specs.Walk.{placing}
-use Rattle.places.proofs.Spans.{end-none, end-same, end-moved}
 use Rattle.places.proofs.Walk.{placed-facts, ends-ascend, span-below}
-use Rattle.spans.specs.Spans.{coded, lineCount, isSpan, spanEnd, covers, spanOver, isCovered, lastEnd, isWordOf, replacedWord, copiedByte, copied}
+use Rattle.spans.specs.Spans.{coded, lineCount, isSpan, spanEnd, covers, spanOver, isCovered, lastEnd, copiedByte, copied}
 
 -- ---- parts of two lists
 
