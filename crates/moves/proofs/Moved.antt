@@ -19,7 +19,7 @@ use Rattle.block_values.specs.BlockValues.{dummyCount, jumpTable}
 use Rattle.moves.specs.Moves.{itemLength, items, source, lastPlace, place, lateFault, isShifted}
 use Rattle.moves.specs.Moved.{isIn, isWord, tableWord, isJumpWord, covers, zeroes, starts, isMoved, movedBlock, movedItem, placeOf, movedPlace, offsetOf, coveredBy, lateByte, lateRodata}
 use Rattle.moves.proofs.Rows.{Hit, row-yes, row-none, row-hit, row-is}
-use Rattle.moves.proofs.Moves.{length-table, items-live, item-live, by-order, sources-ascend, search-past, places-ascend, last-past, place-past, shifted-low, place-inside}
+use Rattle.moves.proofs.Moves.{length-table, items-live, item-live, Before, by-order, sources-ascend, search-past, places-ascend, last-past, place-past, shifted-low, place-inside}
 
 -- ---- ranges
 
@@ -112,6 +112,15 @@ module _ (o : ByteOrder) (C B R : List ℕ) where
       (λ u. cover-high x i k (omega (arith, z .1, search-past o C B R i k j l h u)))
       (λ u. cover-low x i k (omega (arith, z .2, places-ascend o C B R j l i k g u)))
       (λ e f. rw (e, f) (cover-low x j l (z .2)))
+
+  -- a search sees no byte that an earlier item writes: it begins at or past the end of all of them, so searching .rodata with the moves so far finds the same
+  pub seen-uncovered : (x i k j l : ℕ) → k < items o C B i → Before i k j l → lastPlace o C B R j l ≤ x → covers o C B R x i k ≡ false
+  seen-uncovered x i k j l h u g = cover-high x i k (omega (arith, search-past o C B R i k j l h u))
+
+  pub seen-unzeroed : (x i k j l : ℕ) → k < items o C B i → Before i k j l → lastPlace o C B R j l ≤ x → zeroes o C B R x i k ≡ false
+  seen-unzeroed x i k j l h u g = by-test (zeroes o C B R x i k)
+      (λ t. absurd (omega (arith, zero-in x i k t .2, search-past o C B R i k j l h u)))
+      (λ f. f)
 
   -- nothing is written in front of the end of the last .rodata block copied
   pub cover-past : (x i k : ℕ) → x < endAt o C B (4 * blockCount B) 3 → covers o C B R x i k ≡ false
