@@ -2,16 +2,16 @@
 -- cases of a late word's place. Assumes nothing.
 use Prim.Native.Nat.{ℕ, _+_, _-_, _≤_, _<_}
 use mathlib.Core.Path.{_≡_, sym, ap, _∙_}
-use mathlib.Core.Bool.{Bool, true, false}
+use mathlib.Core.Bool.{Bool, true, false, _&&_}
 use mathlib.Core.List.{List}
 use native.Mathlib.Nat.{add-zero}
 use native.Mathlib.Omega.{arith}
 use lib.ListN.{length, take, drop, length-drop}
 use lib.Seq.{drop-drop, take-all}
-use lib.Dec.{eqb, ltb}
-use borrow.Author.Tests.{lt-ltb, le-ltb, ltb-false}
+use lib.Dec.{eqb, leb, ltb}
+use borrow.Author.Tests.{lt-ltb, le-ltb, le-leb, lt-leb, ltb-false}
 use Rattle.lists.specs.Ranges.{first}
-use Rattle.lists.proofs.Ranges.{by-test, by-lt, both, first-here, first-next, first-end, first-is, first-low, first-high, first-ext, first-shift}
+use Rattle.lists.proofs.Ranges.{by-test, by-lt, both, and-parts, and-true, first-here, first-next, first-end, first-is, first-low, first-high, first-ext, first-shift}
 use Rattle.fields.specs.declared.ByteOrder.{ByteOrder}
 use Rattle.fields.specs.Numbers.{number}
 use Rattle.fields.proofs.Numbers.{number-same}
@@ -121,9 +121,41 @@ module _ (o : ByteOrder) (R : List ℕ) (many : Bool) (last w : ℕ) where
       rw t (by-test (wordAt o R 0 (found o R last w + 4)) (λ y. rw y (omega arith)) (λ y. rw y (omega arith)))))
       (λ t. rw t (ltb-false _ _ n)))
 
+  shifts-many : shifts o R many last w ≡ true → many ≡ true
+  unfolding shifts
+  shifts-many t = and-parts many _ t .0
+
   pub placed-shifted : shifts o R many last w ≡ true → placed o R many last w ≡ found o R last w + 4
   unfolding placed
   placed-shifted t = rw t
+
+  -- a dummy that moved on stands right before its place, at or past `last`
+  shift-yes-told : isLost o R many last w ≡ false → shifts o R many last w ≡ true
+      → (leb (last + 4) (placed o R many last w) && wordAt o R w (placed o R many last w - 4)) ≡ true
+  shift-yes-told f t =
+      let e = placed-shifted t in
+      let q : placed o R many last w - 4 ≡ found o R last w = omega (arith, e) in
+      let h : found o R last w + 4 ≤ length R = omega (arith, e, placed-fits f) in
+      let l : last + 4 ≤ placed o R many last w = omega (arith, e, found-low o R w last) in
+      rw (le-leb (last + 4) (placed o R many last w) l, q) (found-word o R w last h)
+
+  -- one that did not stands at its place and nowhere before it
+  shift-no-told : isLost o R many last w ≡ false → shifts o R many last w ≡ false
+      → (leb (last + 4) (placed o R many last w) && wordAt o R w (placed o R many last w - 4)) ≡ false
+  unfolding placed
+  shift-no-told f n =
+      let g = placed-fits f in
+      rw n (by-lt (found o R last w) (last + 4)
+      (λ h. rw (lt-leb (last + 4) (found o R last w) h))
+      (λ h.
+      let u = found-first o R w last (found o R last w - 4) (omega arith) (omega arith) (omega (arith, rw n at g)) in
+      rw (le-leb (last + 4) (found o R last w) h, u)))
+
+  pub shift-told : isLost o R many last w ≡ false
+      → shifts o R many last w ≡ (many && (leb (last + 4) (placed o R many last w) && wordAt o R w (placed o R many last w - 4)))
+  shift-told f = by-test (shifts o R many last w)
+      (λ t. t ∙ sym (and-true many _ (shifts-many t) (shift-yes-told f t)))
+      (λ n. n ∙ sym (rw (shift-no-told f n) (by-test many (λ t. rw t) (λ t. rw t))))
 
   -- the answers of the search
   pub spot-lost : length R < found o R last w + 4 → Lost ≡ spot o R many last w

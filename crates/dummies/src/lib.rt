@@ -14,7 +14,7 @@ pub enum Spot {
 }
 
 // Whether the four bytes at `at` are the word.
-fn is_word_at(order: ByteOrder, part: &[u8], word: u32, at: usize) -> bool
+pub fn is_word_at(order: ByteOrder, part: &[u8], word: u32, at: usize) -> bool
     requires { ⌜ at + 4 ≤ length (now part) ⌝ }
     ensures { λ r. ⌜ r ≡ wordAt order (now (part .entry)) word at ⌝ }
 {

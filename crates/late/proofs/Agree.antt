@@ -15,7 +15,8 @@ use Rattle.blocks.specs.Blocks.{blockCount}
 use Rattle.places.specs.Spans.{endAt}
 use Rattle.moves.specs.Moves.{lateFrom}
 use Rattle.moves.proofs.Agree.{late-agree, place-agree, faulty-agree, late-fault-agree}
-use Rattle.late.specs.Steps.{placeFrom, faultFrom, soundItems, placeWords, liveDummies}
+use Rattle.late_blocks.specs.Items.{placeFrom, faultFrom, soundItems, placeWords}
+use Rattle.late.specs.Steps.{liveDummies}
 use Rattle.late.specs.Table.{lateRow, rowTable, blockWords, wordTable, filled, Walk, Moves}
 use Rattle.late.proofs.Table.{same-place}
 use Rattle.late.proofs.Walk.{same-fault}

@@ -25,7 +25,8 @@ use Rattle.block_values.specs.BlockValues.{dummyCount}
 use Rattle.block_values.proofs.DummyLines.{dummies-few}
 use Rattle.moves.specs.Moves.{items, lateSource, lateFrom, lastPlace, place, isFaulty, lateFault}
 use Rattle.moves.proofs.Moves.{items-live, sound-item}
-use Rattle.late.specs.Steps.{placeFrom, faultFrom, soundItems, placeWords, liveDummies}
+use Rattle.late_blocks.specs.Items.{placeFrom, faultFrom, soundItems, placeWords}
+use Rattle.late.specs.Steps.{liveDummies}
 use Rattle.late.specs.Table.{WORDS, dummyIndex, lateRow, rowTable, blockWords, wordTable, filled}
 
 -- ---- two writes beside each other

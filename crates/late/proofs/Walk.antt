@@ -28,9 +28,10 @@ use Rattle.moves.proofs.Rows.{none-index}
 use Rattle.moves.proofs.Moves.{source-zero, source-next, late-zero, late-next}
 use Rattle.late.specs.declared.Step.{Step}
 use Rattle.late.specs.declared.Step.the-variants.{Next, Stop}
-use Rattle.late.specs.Steps.{faultFrom, soundItems, placeWords, liveDummies, pickStep, stepOf}
+use Rattle.late_blocks.specs.Items.{faultFrom, soundItems, placeWords}
+use Rattle.late.specs.Steps.{liveDummies, pickStep, stepOf}
 use Rattle.late.specs.Table.{WORDS, dummyIndex, lateRow, rowTable, blockWords, wordTable, filled, Ready, Walk, Moves}
-use Rattle.late.proofs.Steps.{sound-high, sound-inside}
+use Rattle.late_blocks.proofs.Items.{sound-high, sound-inside}
 use Rattle.late.proofs.Table.{spliced-comm, length-rows, index-zero, index-next, index-few, words-zero, block-room, words-full, length-words, filled-none, filled-row, filled-words, length-filled}
 
 -- ---- what a step tells

@@ -19,7 +19,8 @@ use Rattle.places.specs.Spans.{endAt}
 use Rattle.places.specs.Walk.{Walked}
 use Rattle.block_values.specs.BlockValues.{lateLength}
 use Rattle.moves.specs.Moves.{lateSource, lateFrom, lateFault}
-use Rattle.late.specs.Steps.{placeWords, liveDummies}
+use Rattle.late_blocks.specs.Items.{placeWords}
+use Rattle.late.specs.Steps.{liveDummies}
 
 -- where the places of dummies begin: behind 1,025 rows of 12 bytes
 abbrev pub WORDS : ℕ

@@ -23,7 +23,7 @@ pub const DUMMIES: usize = 1;
 pub const LAST: usize = 2;
 
 // Field f of row i.
-fn field_at(late: &[u8], f: usize, i: usize) -> usize
+pub fn field_at(late: &[u8], f: usize, i: usize) -> usize
     requires { ⌜ (f < 3) × (i ≤ 1024) × (12 * i + 12 ≤ length (now late)) ⌝ }
     ensures { λ r. ⌜ (r ≡ field (now (late .entry)) f i) × (r < 4294967296) ⌝ }
 {
@@ -31,7 +31,7 @@ fn field_at(late: &[u8], f: usize, i: usize) -> usize
 }
 
 // Of n blocks, the first whose next row is past x in field f.
-fn holder_of(late: &[u8], f: usize, n: usize, x: usize) -> usize
+pub fn holder_of(late: &[u8], f: usize, n: usize, x: usize) -> usize
     requires { ⌜ Sound (now late) n × (f < 3) ⌝ }
     ensures { λ r. ⌜ (r ≡ holder (now (late .entry)) f n x) × (r ≤ n) ⌝ }
 {
@@ -49,7 +49,7 @@ fn holder_of(late: &[u8], f: usize, n: usize, x: usize) -> usize
 }
 
 // How many dummies block i has.
-fn row_dummies(late: &[u8], n: usize, i: usize) -> usize
+pub fn row_dummies(late: &[u8], n: usize, i: usize) -> usize
     requires { ⌜ Sound (now late) n × (i < n) ⌝ }
     ensures { λ r. ⌜ r ≡ rowDummies (now (late .entry)) i ⌝ }
 {

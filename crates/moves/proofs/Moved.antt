@@ -19,7 +19,7 @@ use Rattle.block_values.specs.BlockValues.{dummyCount, jumpTable}
 use Rattle.moves.specs.Moves.{itemLength, items, source, lastPlace, place, lateFault, isShifted}
 use Rattle.moves.specs.Moved.{isIn, isWord, tableWord, isJumpWord, covers, zeroes, starts, isMoved, movedBlock, movedItem, placeOf, movedPlace, offsetOf, coveredBy, lateByte, lateRodata}
 use Rattle.moves.proofs.Rows.{Hit, row-yes, row-none, row-hit, row-is}
-use Rattle.moves.proofs.Moves.{length-table, items-live, item-live, by-order, sources-ascend, search-past, places-ascend, last-past, place-past, shifted-low, place-inside}
+use Rattle.moves.proofs.Moves.{length-table, items-live, item-live, Before, by-order, sources-ascend, search-past, places-ascend, last-past, place-past, shifted-low, place-inside}
 
 -- ---- ranges
 
@@ -71,11 +71,11 @@ module _ (o : ByteOrder) (C B R : List ℕ) where
   unfolding covers
   cover-yes x i k h l = in-yes (place o C B R i k) (itemLength B i k) x h l
 
-  cover-low : (x i k : ℕ) → x < place o C B R i k → covers o C B R x i k ≡ false
+  pub cover-low : (x i k : ℕ) → x < place o C B R i k → covers o C B R x i k ≡ false
   unfolding covers
   cover-low x i k h = in-low (place o C B R i k) (itemLength B i k) x h
 
-  cover-high : (x i k : ℕ) → place o C B R i k + itemLength B i k ≤ x → covers o C B R x i k ≡ false
+  pub cover-high : (x i k : ℕ) → place o C B R i k + itemLength B i k ≤ x → covers o C B R x i k ≡ false
   unfolding covers
   cover-high x i k h = in-high (place o C B R i k) (itemLength B i k) x h
 
@@ -98,6 +98,12 @@ module _ (o : ByteOrder) (C B R : List ℕ) where
       let q = in-parts (place o C B R j l - 4) 4 x (r .1) in
       (r .0, omega (arith, q .0), omega (arith, q .1), omega (arith, q .0))
 
+  pub zero-yes : (x j l : ℕ) → isShifted o C B R j l ≡ true → place o C B R j l ≤ x + 4 → x < place o C B R j l → zeroes o C B R x j l ≡ true
+  unfolding zeroes
+  zero-yes x j l t h g =
+      let m = shifted-low o C B R j l t in
+      and-true (isShifted o C B R j l) _ t (in-yes (place o C B R j l - 4) 4 x (omega arith) (omega arith))
+
   -- and no move covers it
   pub zero-apart : (x i k j l : ℕ) → k < items o C B i → l < items o C B j → zeroes o C B R x j l ≡ true → covers o C B R x i k ≡ false
   zero-apart x i k j l h g t =
@@ -106,6 +112,15 @@ module _ (o : ByteOrder) (C B R : List ℕ) where
       (λ u. cover-high x i k (omega (arith, z .1, search-past o C B R i k j l h u)))
       (λ u. cover-low x i k (omega (arith, z .2, places-ascend o C B R j l i k g u)))
       (λ e f. rw (e, f) (cover-low x j l (z .2)))
+
+  -- a search sees no byte that an earlier item writes: it begins at or past the end of all of them, so searching .rodata with the moves so far finds the same
+  pub seen-uncovered : (x i k j l : ℕ) → k < items o C B i → Before i k j l → lastPlace o C B R j l ≤ x → covers o C B R x i k ≡ false
+  seen-uncovered x i k j l h u g = cover-high x i k (omega (arith, search-past o C B R i k j l h u))
+
+  pub seen-unzeroed : (x i k j l : ℕ) → k < items o C B i → Before i k j l → lastPlace o C B R j l ≤ x → zeroes o C B R x i k ≡ false
+  seen-unzeroed x i k j l h u g = by-test (zeroes o C B R x i k)
+      (λ t. absurd (omega (arith, zero-in x i k t .2, search-past o C B R i k j l h u)))
+      (λ f. f)
 
   -- nothing is written in front of the end of the last .rodata block copied
   pub cover-past : (x i k : ℕ) → x < endAt o C B (4 * blockCount B) 3 → covers o C B R x i k ≡ false
@@ -210,16 +225,17 @@ module _ (o : ByteOrder) (C B R : List ℕ) where
       unfolding lateRodata
       length-late = select-length (λ x. true) (lateByte o C B R s L) (length R) ∙ count-all (length R)
 
-      late-at : (x : ℕ) → x < length R → getD (lateRodata o C B R s L) x 0 ≡ lateByte o C B R s L x
+      pub late-at : (x : ℕ) → x < length R → getD (lateRodata o C B R s L) x 0 ≡ lateByte o C B R s L x
       unfolding lateRodata
       late-at x h =
           ap (λ (j : ℕ). getD (select (λ i. true) (lateByte o C B R s L) (length R)) j 0) (sym (count-all x))
           ∙ select-at (λ i. true) (lateByte o C B R s L) x (length R) 0 h refl
 
-      covered-is : (x i k : ℕ) → i < blockCount B → k < items o C B i → covers o C B R x i k ≡ true
+      -- byte x, in each of its three cases
+      pub covered-byte : (x i k : ℕ) → i < blockCount B → k < items o C B i → covers o C B R x i k ≡ true
           → lateByte o C B R s L x ≡ getD L (source o C B s i k + (x - place o C B R i k)) 0
       unfolding lateByte coveredBy offsetOf
-      covered-is x i k h g t =
+      covered-byte x i k h g t =
           let a = cover-in x i k t in
           let y = row-yes (covers o C B R x) (items o C B) (blockCount B) i k h g t in
           let r = row-is (covers o C B R x) (items o C B) (blockCount B) i k h g t (λ j l hit.
@@ -227,31 +243,38 @@ module _ (o : ByteOrder) (C B R : List ℕ) where
           cover-once x j l i k (hit .column) g (b .0) (b .1) (a .0) (a .1)) in
           rw (y, r .0, r .1)
 
+      pub zeroed-byte : (x i k : ℕ) → i < blockCount B → k < items o C B i → zeroes o C B R x i k ≡ true → lateByte o C B R s L x ≡ 0
+      unfolding lateByte
+      zeroed-byte x i k h g t =
+          let f = row-none (covers o C B R x) (items o C B) (blockCount B) (λ j l a b. zero-apart x j l i k b g t) in
+          let y = row-yes (zeroes o C B R x) (items o C B) (blockCount B) i k h g t in
+          rw (f, y)
+
+      pub other-byte : (x : ℕ) → ((i k : ℕ) → i < blockCount B → k < items o C B i → covers o C B R x i k ≡ false)
+          → ((i k : ℕ) → i < blockCount B → k < items o C B i → zeroes o C B R x i k ≡ false) → lateByte o C B R s L x ≡ getD R x 0
+      unfolding lateByte
+      other-byte x a b =
+          let f = row-none (covers o C B R x) (items o C B) (blockCount B) a in
+          let g = row-none (zeroes o C B R x) (items o C B) (blockCount B) b in
+          rw (f, g)
+
       -- inside a move A's byte
       pub late-in : (i k j : ℕ) → i < blockCount B → k < items o C B i → j < itemLength B i k → place o C B R i k + j < length R
           → getD (lateRodata o C B R s L) (place o C B R i k + j) 0 ≡ getD L (source o C B s i k + j) 0
       late-in i k j h g u v =
           let x = place o C B R i k + j in
           let e : source o C B s i k + (x - place o C B R i k) ≡ source o C B s i k + j = omega arith in
-          late-at x v ∙ covered-is x i k h g (cover-yes x i k (omega arith) (omega arith)) ∙ ap (λ (y : ℕ). getD L y 0) e
+          late-at x v ∙ covered-byte x i k h g (cover-yes x i k (omega arith) (omega arith)) ∙ ap (λ (y : ℕ). getD L y 0) e
 
       -- in a zeroed word 0
       pub late-zero : (x i k : ℕ) → i < blockCount B → k < items o C B i → zeroes o C B R x i k ≡ true → x < length R
           → getD (lateRodata o C B R s L) x 0 ≡ 0
-      unfolding lateByte
-      late-zero x i k h g t v =
-          let f = row-none (covers o C B R x) (items o C B) (blockCount B) (λ j l a b. zero-apart x j l i k b g t) in
-          let y = row-yes (zeroes o C B R x) (items o C B) (blockCount B) i k h g t in
-          late-at x v ∙ rw (f, y)
+      late-zero x i k h g t v = late-at x v ∙ zeroed-byte x i k h g t
 
       -- else as it was
       pub late-out : (x : ℕ) → x < length R → ((i k : ℕ) → i < blockCount B → k < items o C B i → covers o C B R x i k ≡ false)
           → ((i k : ℕ) → i < blockCount B → k < items o C B i → zeroes o C B R x i k ≡ false) → getD (lateRodata o C B R s L) x 0 ≡ getD R x 0
-      unfolding lateByte
-      late-out x v a b =
-          let f = row-none (covers o C B R x) (items o C B) (blockCount B) a in
-          let g = row-none (zeroes o C B R x) (items o C B) (blockCount B) b in
-          late-at x v ∙ rw (f, g)
+      late-out x v a b = late-at x v ∙ other-byte x a b
 
       -- ---- four bytes
 

@@ -4,7 +4,7 @@ use mathlib.Core.Path.{_≡_, refl}
 use mathlib.Core.Bool.{true, false}
 use mathlib.Core.List.{List, [], _∷_, _++_, map}
 use Rattle.lists.specs.Ranges.{firstFrom, count}
-use Rattle.lists.specs.Strings.{same, zeroAt, nameEnd, nameAt}
+use Rattle.lists.specs.Strings.{same, prefixed, zeroAt, nameEnd, nameAt}
 use Rattle.fields.specs.declared.ByteOrder.the-variants.{Big}
 use Rattle.fields.specs.Numbers.{turned, magnitude, number}
 use Rattle.scope.specs.Text.{text}
@@ -16,7 +16,13 @@ use Rattle.static_entries.specs.Entry.{nth, countOf, staticFrom, typeAt, isStat
 use Rattle.statics.specs.File.{entryPlace, opened, closed, nested, listedIn}
 use Rattle.packed.specs.Packed.{symbolOf, kindOf, relocationInfo, shifted}
 use Rattle.places.specs.Spans.{oddPlace}
+use Rattle.lines.specs.Lines.{feedAt, lineEnd, isWhole, line, next}
+use Rattle.lines.specs.Values.{every, isDigit, isHexDigit, decimalFrom, isNumber, numberSound, spaceAt, spaceIn, labelSound, labelIn, afterLabel, sizeIn, alignIn, spanSound, sectionSound, dummySound, jumpTableSound, emptySound, anySound}
+use Rattle.lines.specs.Keys.{keys, keyName, repeats, valueSound, valueAt, isKeyLine}
+use Rattle.blocks.specs.Blocks.{skipFrom, skip, groupEnd, groupAt, blockAt}
+use Rattle.block_values.specs.BlockValues.{hexDigit, hexFrom, dummy, dummyCount, dummyLine, dummyWord}
 use Rattle.dummies.specs.Dummies.{wordAt, found, shifts, placed}
+use Rattle.moves.specs.Moves.{isDummy, firstOfMany, itemLength, itemPlace, lastFrom}
 
 -- r_info 00000304 hex: symbol 3, kind 4
 pub info-symbol : symbolOf 0x00000304 ≡ 3
@@ -109,3 +115,34 @@ second-of-two = refl
 pub one-dummy : placed Big padded false 0 0xE0123456 ≡ 0
 unfolding placed shifts found wordAt firstFrom number turned magnitude
 one-dummy = refl
+
+-- the same of block files with one block that has two dummies, or one: what is read of each, the places, and that the word before the first becomes zero
+abbrev pub twoDummies : List ℕ
+twoDummies = text "desc=\ntext=\ndata=\nrodata=\nbss=\ndummy=e0123456\ndummy=e0123457\njtbl=0\nend=\n"
+
+abbrev pub oneDummy : List ℕ
+oneDummy = text "desc=\ntext=\ndata=\nrodata=\nbss=\ndummy=e0123456\njtbl=0\nend=\n"
+
+pub two-read : (dummyCount twoDummies 0 ≡ 2) × (dummyWord twoDummies 0 0 ≡ 0xE0123456) × (dummyWord twoDummies 0 1 ≡ 0xE0123457)
+unfolding dummyWord dummyLine dummy hexFrom hexDigit dummyCount groupAt groupEnd blockAt skip skipFrom repeats keys isKeyLine isWhole next line lineEnd feedAt valueAt keyName valueSound prefixed same text firstFrom sectionSound spanSound anySound labelSound dummySound jumpTableSound emptySound every isHexDigit isDigit numberSound isNumber decimalFrom spaceIn spaceAt sizeIn alignIn afterLabel labelIn
+two-read = (refl, refl, refl)
+
+pub one-read : (dummyCount oneDummy 0 ≡ 1) × (dummyWord oneDummy 0 0 ≡ 0xE0123456)
+unfolding dummyWord dummyLine dummy hexFrom hexDigit dummyCount groupAt groupEnd blockAt skip skipFrom repeats keys isKeyLine isWhole next line lineEnd feedAt valueAt keyName valueSound prefixed same text firstFrom sectionSound spanSound anySound labelSound dummySound jumpTableSound emptySound every isHexDigit isDigit numberSound isNumber decimalFrom spaceIn spaceAt sizeIn alignIn afterLabel labelIn
+one-read = (refl, refl)
+
+pub two-places : (itemPlace Big twoDummies padded 0 0 0 ≡ 4) × (lastFrom Big twoDummies padded 0 0 1 ≡ 8) × (itemPlace Big twoDummies padded 0 8 1 ≡ 8)
+unfolding lastFrom itemPlace itemLength isDummy firstOfMany
+two-places = (
+  rw (two-read .0, two-read .1) first-of-two,
+  rw (two-read .0, two-read .1, first-of-two),
+  rw (two-read .0, two-read .2) second-of-two,
+)
+
+pub two-zeroed : shifts Big padded (firstOfMany twoDummies 0 0) 0 (dummyWord twoDummies 0 0) ≡ true
+unfolding firstOfMany
+two-zeroed = rw (two-read .0, two-read .1) first-shifts
+
+pub one-place : itemPlace Big oneDummy padded 0 0 0 ≡ 0
+unfolding itemPlace isDummy firstOfMany
+one-place = rw (one-read .0, one-read .1) one-dummy

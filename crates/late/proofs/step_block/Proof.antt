@@ -1,5 +1,6 @@
 -- `late::step_block` meets its contract: a block that is switched off has no items, and one that is not has its dummies and its jump table. Assumes nothing.
-use Rattle.late.proofs.Steps.{spot-sound, spot-unsound, live-count, words-live, step-next, step-stop, step-off, words-off}
+use Rattle.late_blocks.proofs.Items.{spot-sound, spot-unsound}
+use Rattle.late.proofs.Steps.{live-count, words-live, step-next, step-stop, step-off, words-off}
 use borrow.Author.Needs.{needs}
 use mathlib.Core.Path.{sym, _∙_}
 use Prim.Native.Nat.{_+_, _*_}

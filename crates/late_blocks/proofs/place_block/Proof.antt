@@ -1,12 +1,12 @@
--- `late::place_block` meets its contract: where the dummies are placed, the jump table is the block's last item; where one is lost, so is the block. Assumes
+-- `late_blocks::place_block` meets its contract: where the dummies are placed, the jump table is the block's last item; where one is lost, so is the block. Assumes
 -- nothing.
-use Rattle.late.proofs.Steps.{spot-sound, spot-unsound, sound-inside, block-table, block-lost}
+use Rattle.late_blocks.proofs.Items.{spot-sound, spot-unsound, sound-inside, block-table, block-lost}
 use borrow.Author.Needs.{needs}
 use mathlib.Core.Path.{_∙_}
 use native.Mathlib.Omega.{arith}
 use denote.Ref.{now}
-use Rattle.late.proofs.place_block.Statement.{statement}
-use Rattle.late.proofs.place_block.Tie as tie
+use Rattle.late_blocks.proofs.place_block.Statement.{statement}
+use Rattle.late_blocks.proofs.place_block.Tie as tie
 
 place-dummies-requires : tie.Need-place-dummies-requires
 place-dummies-requires c κs = search needs

@@ -1,13 +1,13 @@
--- `late::place_dummies` meets its contract: after k turns the places of k dummies stand in the table and the next search begins at `here`. A turn ends the loop
+-- `late_blocks::place_dummies` meets its contract: after k turns the places of k dummies stand in the table and the next search begins at `here`. A turn ends the loop
 -- at the first dummy that is lost, and else writes one word more. Assumes nothing.
-use Rattle.late.proofs.Steps.{spot-at, spot-lost, Placing, placing-none, placing-lost, placing-fits, placing-next, placing-end}
+use Rattle.late_blocks.proofs.Items.{spot-at, spot-lost, Placing, placing-none, placing-lost, placing-fits, placing-next, placing-end}
 use Rattle.moves.specs.Moves.{itemPlace, itemFault}
 use borrow.Author.Needs.{needs}
 use native.Mathlib.Omega.{arith}
 use Prim.Native.Nat.{_-_}
 use denote.Ref.{now}
-use Rattle.late.proofs.place_dummies.Statement.{statement}
-use Rattle.late.proofs.place_dummies.Tie as tie
+use Rattle.late_blocks.proofs.place_dummies.Statement.{statement}
+use Rattle.late_blocks.proofs.place_dummies.Tie as tie
 
 abbrev Inv-loop : tie.InvT-loop
 Inv-loop order rodata file table i count last late₀ at here₀ k₀ late here k =

@@ -1,10 +1,10 @@
--- `late::table_spot` meets its contract: at each `return` the tests that led there say which case of `tableSpot` holds. Assumes nothing.
-use Rattle.late.proofs.Steps.{table-none, table-alone, table-past, table-fits}
+-- `late_blocks::table_spot` meets its contract: at each `return` the tests that led there say which case of `tableSpot` holds. Assumes nothing.
+use Rattle.late_blocks.proofs.Items.{table-none, table-alone, table-past, table-fits}
 use native.Mathlib.Omega.{arith}
 use denote.Ref.{now}
 use borrow.Author.Needs.{needs}
-use Rattle.late.proofs.table_spot.Statement.{statement}
-use Rattle.late.proofs.table_spot.Tie as tie
+use Rattle.late_blocks.proofs.table_spot.Statement.{statement}
+use Rattle.late_blocks.proofs.table_spot.Tie as tie
 
 returns : tie.Need-returns
 returns c =

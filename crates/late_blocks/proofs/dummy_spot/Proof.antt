@@ -1,9 +1,9 @@
--- `late::dummy_spot` meets its contract: its word and its number are those of the definition. Assumes nothing.
-use Rattle.late.proofs.Steps.{item-spot}
+-- `late_blocks::dummy_spot` meets its contract: its word and its number are those of the definition. Assumes nothing.
+use Rattle.late_blocks.proofs.Items.{item-spot}
 use denote.Ref.{now}
 use borrow.Author.Needs.{needs}
-use Rattle.late.proofs.dummy_spot.Statement.{statement}
-use Rattle.late.proofs.dummy_spot.Tie as tie
+use Rattle.late_blocks.proofs.dummy_spot.Statement.{statement}
+use Rattle.late_blocks.proofs.dummy_spot.Tie as tie
 
 dummy-word-requires : tie.Need-dummy-word-requires
 dummy-word-requires c κs = search needs

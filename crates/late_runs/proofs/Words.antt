@@ -1,0 +1,100 @@
+-- The laws of a block's words: they ascend, so the first that ends past x is found by halving; and whether a dummy moved on, in each of its ways. Assumes nothing.
+use Prim.Native.Nat.{ℕ, _+_, _-_, _*_, _≤_, _<_}
+use mathlib.Core.Path.{_≡_, _∙_}
+use mathlib.Core.Bool.{Bool, true, false, _&&_}
+use mathlib.Core.List.{List}
+use native.Mathlib.Omega.{arith}
+use lib.Dec.{eqb, ltb}
+use borrow.Author.Tests.{lt-ltb, le-ltb, le-leb, lt-leb, ltb-true, eq-eqb, ne-eqb}
+use Rattle.lists.proofs.Ranges.{by-test, by-lt, first-is, first-to, first-high}
+use Rattle.fields.specs.declared.ByteOrder.{ByteOrder}
+use Rattle.fields.specs.declared.ByteOrder.the-variants.{Big}
+use Rattle.fields.specs.Numbers.{number}
+use Rattle.block_values.specs.BlockValues.{dummyWord}
+use Rattle.dummies.specs.Dummies.{wordAt}
+use Rattle.late.specs.Table.{WORDS}
+use Rattle.late_lookups.specs.Fields.{field, rowDummies}
+use Rattle.late_lookups.proofs.Fields.{word-read}
+use Rattle.late_runs.specs.declared.Run.the-variants.{Kept, Late, Zeros}
+use Rattle.late_runs.specs.Words.{dummyPlace, wordPast, dummyOver, Rising, movedOn, gapTo, wordRun, tableRun}
+
+pub place-read : (late : List ℕ) (i k a r : ℕ) → a ≡ field late 1 i → r ≡ number Big 4 late (WORDS + 4 * (a + k)) → r ≡ dummyPlace late i k
+unfolding dummyPlace
+place-read late i k a r e q = rw (← e) (word-read late (a + k) r q)
+
+module _ (late : List ℕ) (i x : ℕ) where
+  past-true : (k : ℕ) → wordPast late i x k ≡ true → x < dummyPlace late i k + 4
+  unfolding wordPast
+  past-true k t = ltb-true _ _ t
+
+  past-yes : (k : ℕ) → x < dummyPlace late i k + 4 → wordPast late i x k ≡ true
+  unfolding wordPast
+  past-yes k h = lt-ltb _ _ h
+
+  pub over-high : dummyOver late i x ≤ rowDummies late i
+  unfolding dummyOver
+  over-high = first-high (wordPast late i x) 0 (rowDummies late i) (omega arith)
+
+  pub over-past : dummyOver late i x < rowDummies late i → x < dummyPlace late i (dummyOver late i x) + 4
+  unfolding dummyOver
+  over-past h = past-true _ (first-is (wordPast late i x) 0 (rowDummies late i) (omega arith) .here h)
+
+  -- the two ways of a turn
+  pub over-left : (m : ℕ) → m < rowDummies late i → x < dummyPlace late i m + 4 → dummyOver late i x ≤ m
+  unfolding dummyOver
+  over-left m h l = first-to (wordPast late i x) 0 (rowDummies late i) m (omega arith) h (past-yes m l)
+
+  pub over-right : (n m : ℕ) → Rising late n i → m < rowDummies late i → dummyPlace late i m + 4 ≤ x → m + 1 ≤ dummyOver late i x
+  over-right n m s h l = by-lt m (dummyOver late i x)
+      (λ u. omega arith)
+      (λ u. absurd (omega (arith, over-past (omega arith), s .rises (dummyOver late i x) m u h)))
+
+-- ---- a dummy that moved on
+
+module _ (o : ByteOrder) (B R : List ℕ) (i count k last p : ℕ) where
+  pub on-later : (k ≡ 0 → ⊥) → false ≡ movedOn o B R i count k last p
+  unfolding movedOn
+  on-later d = rw (ne-eqb k 0 d)
+
+  pub on-alone : count < 2 → false ≡ movedOn o B R i count k last p
+  unfolding movedOn
+  on-alone h = let g : count ≤ 1 = omega arith in rw (le-ltb 1 count g) (by-test (eqb k 0) (λ t. rw t) (λ t. rw t))
+
+  pub on-near : p < last + 4 → false ≡ movedOn o B R i count k last p
+  unfolding movedOn
+  on-near h = rw (lt-leb (last + 4) p h) (by-test (eqb k 0 && ltb 1 count) (λ t. rw t) (λ t. rw t))
+
+  pub on-is : (w : ℕ) (r : Bool) → k ≡ 0 → 2 ≤ count → last + 4 ≤ p → w ≡ dummyWord B i 0 → r ≡ wordAt o R w (p - 4) → r ≡ movedOn o B R i count k last p
+  unfolding movedOn
+  on-is w r e h l q is = let g : 1 < count = omega arith in is ∙ rw (eq-eqb k 0 e, lt-ltb 1 count g, le-leb (last + 4) p l, q)
+
+-- ---- the bytes before a place
+
+module _ (shifted : Bool) (x p : ℕ) where
+  pub gap-zeros : shifted ≡ true → p ≤ x + 4 → Zeros (p - x) ≡ gapTo shifted x p
+  unfolding gapTo
+  gap-zeros t h = rw (t, le-leb p (x + 4) h)
+
+  pub gap-before : shifted ≡ true → x + 4 < p → Kept (p - 4 - x) ≡ gapTo shifted x p
+  unfolding gapTo
+  gap-before t h = rw (t, lt-leb p (x + 4) h)
+
+  pub gap-kept : shifted ≡ false → Kept (p - x) ≡ gapTo shifted x p
+  unfolding gapTo
+  gap-kept f = rw f
+
+-- ---- runs
+
+module _ (o : ByteOrder) (B R late : List ℕ) (i count k x : ℕ) where
+  pub run-in-word : (a p : ℕ) → a ≡ field late 0 i → p ≡ dummyPlace late i k → p ≤ x → Late (a + 4 * k + (x - p)) (p + 4 - x) ≡ wordRun o B R late i count k x
+  unfolding wordRun
+  run-in-word a p e q h = rw (← e, ← q, le-leb p x h)
+
+  pub run-before : (a p : ℕ) (b : Bool) → a ≡ field late 2 i → p ≡ dummyPlace late i k → b ≡ movedOn o B R i count k a p → x < p
+      → gapTo b x p ≡ wordRun o B R late i count k x
+  unfolding wordRun
+  run-before a p b e q t h = rw (← e, ← q, lt-leb p x h, t)
+
+pub run-in-table : (late : List ℕ) (i x a b : ℕ) → a ≡ field late 0 (i + 1) → b ≡ field late 2 (i + 1) → Late (a - (b - x)) (b - x) ≡ tableRun late i x
+unfolding tableRun
+run-in-table late i x a b e q = rw (e, q)
