@@ -15,8 +15,9 @@ use Rattle.fields.specs.Numbers.{number, encoded}
 use Rattle.records.specs.declared.debug.Hdrr.{Hdrr}
 use Rattle.records.specs.Debug.{debugAt}
 use Rattle.records.proofs.Offsets.{debug-magic}
+use Rattle.scope.specs.Elf.{SHT_MIPS_DEBUG}
 use Rattle.packed.specs.Packed.{shifted}
-use Rattle.debug_shift.specs.Shift.{SHT_MIPS_DEBUG, isOffset, moves, movedWord, movedWords, movedDebug, hasHeader, shiftFails}
+use Rattle.debug_shift.specs.Shift.{isOffset, moves, movedWord, movedWords, movedDebug, hasHeader, shiftFails}
 
 -- ---- words
 

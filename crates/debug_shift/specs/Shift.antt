@@ -12,14 +12,12 @@ use Rattle.records.specs.declared.debug.Hdrr.{Hdrr}
 use Rattle.fields.specs.Numbers.{encoded}
 use Rattle.lists.specs.Records.{flat}
 use Rattle.records.specs.Debug.{debugAt}
+use Rattle.scope.specs.Elf.{SHT_MIPS_DEBUG}
 use Rattle.packed.specs.Packed.{shifted}
 
--- MIPS debug documentation, magicSym; and sh_type of a debug section, SHT_MIPS_DEBUG
+-- MIPS debug documentation, magicSym
 abbrev pub MAGIC : ℕ
 MAGIC = 0x7009
-
-abbrev pub SHT_MIPS_DEBUG : ℕ
-SHT_MIPS_DEBUG = 0x70000005
 
 -- the words of the header are ilineMax and eleven pairs: a count, and the offset behind it. Word i is the offset of a pair.
 unfoldable pub isOffset : ℕ → Bool

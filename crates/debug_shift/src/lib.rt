@@ -9,8 +9,6 @@ use records::Hdrr;
 
 pub const MAGIC: u32 = 0x7009;
 
-pub const SHT_MIPS_DEBUG: u32 = 0x70000005;
-
 // Whether word i of the header is the offset of a pair.
 fn is_offset(i: usize) -> bool
     ensures { λ r. ⌜ r ≡ isOffset i ⌝ }
@@ -68,7 +66,7 @@ pub fn has_header(order: ByteOrder, debug: &[u8]) -> bool
 pub fn shift_fails(order: ByteOrder, debug: &[u8], kind: u32, old: u32, new: u32) -> bool
     ensures { λ r. ⌜ r ≡ shiftFails order (now (debug .entry)) kind old new ⌝ }
 {
-    if kind != SHT_MIPS_DEBUG {
+    if kind != scope::SHT_MIPS_DEBUG {
         return false;
     }
     if old == new {

@@ -11,9 +11,10 @@ use Rattle.lists.specs.Ranges.{pastLast}
 use Rattle.lists.proofs.Ranges.{by-test, both, by-lt, past-le, past-above}
 use Rattle.fields.specs.declared.ByteOrder.{ByteOrder}
 use Rattle.records.specs.declared.section.SectionHeader.{SectionHeader}
+use Rattle.scope.specs.Elf.{SHT_MIPS_GPTAB, SHT_MIPS_DEBUG}
 use Rattle.scope.specs.Codes.{codeType, sectionCodes}
 use Rattle.elf.specs.Readers.{sectionCount, section, codedSection}
-use Rattle.dropping.specs.Kept.{SHT_MIPS_GPTAB, SHT_MIPS_DEBUG, stays, kept}
+use Rattle.dropping.specs.Kept.{stays, kept}
 
 module _ (o : ByteOrder) (F : List ℕ) where
   -- a section header in hand

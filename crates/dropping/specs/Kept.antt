@@ -5,14 +5,8 @@ use mathlib.Core.List.{List}
 use lib.Dec.{eqb}
 use Rattle.lists.specs.Ranges.{pastLast}
 use Rattle.fields.specs.declared.ByteOrder.{ByteOrder}
+use Rattle.scope.specs.Elf.{SHT_MIPS_GPTAB, SHT_MIPS_DEBUG}
 use Rattle.elf.specs.Readers.{sectionCount, section}
-
--- sh_type (MIPS supplement)
-abbrev pub SHT_MIPS_GPTAB : ℕ
-SHT_MIPS_GPTAB = 0x70000003
-
-abbrev pub SHT_MIPS_DEBUG : ℕ
-SHT_MIPS_DEBUG = 0x70000005
 
 module _ (o : ByteOrder) (F : List ℕ) where
   -- section i is of neither type

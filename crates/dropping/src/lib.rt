@@ -7,20 +7,16 @@ ghost use Rattle.elf.specs.Bounds.{Headed};
 ghost use Rattle.dropping.specs.Kept.{stays, kept};
 use fields::ByteOrder;
 
-pub const SHT_MIPS_GPTAB: u32 = 0x70000003;
-
-pub const SHT_MIPS_DEBUG: u32 = 0x70000005;
-
 // Whether section i is of neither type that is dropped.
 fn is_kept(order: ByteOrder, file: &[u8], i: usize) -> bool
     requires { ⌜ Headed order (now file) × (i < sectionCount order (now file)) ⌝ }
     ensures { λ r. ⌜ r ≡ stays order (now (file .entry)) i ⌝ }
 {
     let h = elf::section_at(order, file, i);
-    if h.sh_type == SHT_MIPS_GPTAB {
+    if h.sh_type == scope::SHT_MIPS_GPTAB {
         return false;
     }
-    h.sh_type != SHT_MIPS_DEBUG
+    h.sh_type != scope::SHT_MIPS_DEBUG
 }
 
 // One past the last section of neither type.

@@ -8,6 +8,7 @@ use Rattle.fields.specs.declared.ByteOrder.{ByteOrder}
 use Rattle.scope.specs.declared.Finding.{Finding}
 use Rattle.scope.specs.declared.Finding.the-variants.{Clear, At}
 use Rattle.scope.specs.Text.{text}
+use Rattle.scope.specs.Refusals.{MISSING_SECTION, BLOCK_LABELS, LATE_LABELS}
 use Rattle.elf.specs.Readers.{codedSection}
 use Rattle.elf.specs.Bounds.{Named}
 use Rattle.symbols.specs.Symbols.{symbol, symbolNamed, Table}
@@ -53,16 +54,6 @@ inOrder Nothing Clear false = LinedUp
 
 unfoldable pub lineUp : ByteOrder → List ℕ → List ℕ → List ℕ → LineUp
 lineUp o C A B = inOrder (missing o C A B) (labelFault o C A B) (lateFault o C A B)
-
--- the numbers of document 01's table: 11 what is missing, 12 the labels of blocks, 13 the late labels
-abbrev pub MISSING_SECTION : ℕ
-MISSING_SECTION = 11
-
-abbrev pub BLOCK_LABELS : ℕ
-BLOCK_LABELS = 12
-
-abbrev pub LATE_LABELS : ℕ
-LATE_LABELS = 13
 
 -- what each case is in document 01's numbers, objects and places
 unfoldable pub ifLined : LineUp → Answer → Answer

@@ -19,6 +19,13 @@ ALIGN_LIMIT = 65536
 abbrev pub BLOCK_LIMIT : ℕ
 BLOCK_LIMIT = 1024
 
+-- statics of an object, and bytes of a static's stored name
+abbrev pub STATIC_LIMIT : ℕ
+STATIC_LIMIT = 4096
+
+abbrev pub STATIC_NAME_LIMIT : ℕ
+STATIC_NAME_LIMIT = 1024
+
 -- the least lengths of the working buffers (docs/SIZES.md): rows of 48 bytes for 1,024 blocks, and of 8 for their 4,096 lines
 abbrev pub BLOCK_TABLE : ℕ
 BLOCK_TABLE = 49152

@@ -6,7 +6,7 @@ use Rattle.scope.specs.declared.Finding.{Finding}
 use Rattle.scope.specs.declared.Finding.the-variants.{Clear, At}
 
 -- 1 sizes and settings, 2 file header, 3 section headers, 4 section names, 5 symbol table, 6 relocation tables, 7 block file, 8 and 9 the places of
--- blocks, 21 room in the output
+-- blocks, 11 what C or A lacks, 12 the labels of blocks, 13 the late labels, 14 the late words, 17 statics, 21 room in the output
 abbrev pub LIMITS : ℕ
 LIMITS = 1
 
@@ -33,6 +33,21 @@ BLOCK_PLACE = 8
 
 abbrev pub BLOCK_ALIGNMENT : ℕ
 BLOCK_ALIGNMENT = 9
+
+abbrev pub MISSING_SECTION : ℕ
+MISSING_SECTION = 11
+
+abbrev pub BLOCK_LABELS : ℕ
+BLOCK_LABELS = 12
+
+abbrev pub LATE_LABELS : ℕ
+LATE_LABELS = 13
+
+abbrev pub LATE_WORDS : ℕ
+LATE_WORDS = 14
+
+abbrev pub STATICS : ℕ
+STATICS = 17
 
 abbrev pub OUTPUT_ROOM : ℕ
 OUTPUT_ROOM = 21

@@ -15,6 +15,10 @@ pub const ALIGN_LIMIT: u32 = 65536;
 
 pub const BLOCK_LIMIT: usize = 1024;
 
+pub const STATIC_LIMIT: usize = 4096;
+
+pub const STATIC_NAME_LIMIT: usize = 1024;
+
 pub const ELFCLASS32: u8 = 1;
 
 pub const ELFDATA2LSB: u8 = 1;
@@ -38,6 +42,10 @@ pub const SHT_RELA: u32 = 4;
 pub const SHT_NOBITS: u32 = 8;
 
 pub const SHT_REL: u32 = 9;
+
+pub const SHT_MIPS_GPTAB: u32 = 0x70000003;
+
+pub const SHT_MIPS_DEBUG: u32 = 0x70000005;
 
 pub const SHT_MIPS_REGINFO: u32 = 0x70000006;
 
@@ -76,6 +84,16 @@ pub const BLOCK_FILE: u32 = 7;
 pub const BLOCK_PLACE: u32 = 8;
 
 pub const BLOCK_ALIGNMENT: u32 = 9;
+
+pub const MISSING_SECTION: u32 = 11;
+
+pub const BLOCK_LABELS: u32 = 12;
+
+pub const LATE_LABELS: u32 = 13;
+
+pub const LATE_WORDS: u32 = 14;
+
+pub const STATICS: u32 = 17;
 
 pub const OUTPUT_ROOM: u32 = 21;
 

@@ -8,18 +8,12 @@ use lib.Dec.{eqb, ltb, leb}
 use Rattle.lists.specs.Ranges.{pickList}
 use Rattle.lists.specs.Strings.{hasEnd, nameAt}
 use Rattle.fields.specs.declared.ByteOrder.{ByteOrder}
+use Rattle.scope.specs.Limits.{STATIC_LIMIT, STATIC_NAME_LIMIT}
 use Rattle.elf.specs.Readers.{sectionCount, codedSection}
 use Rattle.debug_entries.specs.declared.Entry.{Entry}
 use Rattle.debug_entries.specs.Entries.{entryAt, entryType, storageClass, listsStatic, storageCode}
 use Rattle.static_table.specs.declared.Static.{Static}
 use Rattle.static_table.specs.Statics.{namesLength, namesakes}
-
--- the limits of document 01: statics of an object, bytes of a stored name
-abbrev pub STATIC_LIMIT : ℕ
-STATIC_LIMIT = 4096
-
-abbrev pub STATIC_NAME_LIMIT : ℕ
-STATIC_NAME_LIMIT = 1024
 
 -- static k of a list; zeros past its end
 unfoldable pub nth : List Static → ℕ → Static

@@ -8,7 +8,7 @@ use lib.Dec.{eqb, ltb}
 use Rattle.lists.specs.Ranges.{pickList}
 use Rattle.lists.specs.Windows.{spliced}
 use Rattle.fields.specs.declared.ByteOrder.{ByteOrder}
-use Rattle.scope.specs.Limits.{FILE_LIMIT}
+use Rattle.scope.specs.Limits.{FILE_LIMIT, STATIC_LIMIT}
 use Rattle.elf.specs.Readers.{sectionCount, codedSection}
 use Rattle.debug_entries.specs.declared.Entry.{Entry}
 use Rattle.debug_entries.specs.Entries.{entryType}
@@ -17,7 +17,7 @@ use Rattle.static_table.specs.Statics.{writtenLength}
 use Rattle.static_table.specs.Table.{staticRow, rows, staticsIn, Listed}
 use Rattle.static_entries.specs.declared.Present.{Present}
 use Rattle.static_entries.specs.declared.Step.{Step}
-use Rattle.static_entries.specs.Entry.{STATIC_LIMIT, nameSound, entryFault, typeAt, listAfter}
+use Rattle.static_entries.specs.Entry.{nameSound, entryFault, typeAt, listAfter}
 
 -- which of the sections of statics C has
 unfoldable pub presentIn : ByteOrder → List ℕ → Present

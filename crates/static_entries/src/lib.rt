@@ -11,10 +11,6 @@ use debug_entries::Entry;
 use fields::ByteOrder;
 use static_table::Static;
 
-pub const STATIC_LIMIT: usize = 4096;
-
-pub const STATIC_NAME_LIMIT: usize = 1024;
-
 // Which of the sections of statics the compiled object has.
 pub struct Present {
     pub text: bool,
@@ -57,7 +53,7 @@ fn is_name_sound(file: &[u8], start: usize) -> bool
     ensures { λ r. ⌜ r ≡ nameSound (now (file .entry)) start ⌝ }
 {
     let n = names::name_at(file, start).len();
-    scope::both(start + n < file.len(), n <= STATIC_NAME_LIMIT)
+    scope::both(start + n < file.len(), n <= scope::STATIC_NAME_LIMIT)
 }
 
 // Whether a static can be listed behind n others.
@@ -67,7 +63,7 @@ fn has_room(file: &[u8], present: Present, class: u32, start: usize, n: usize) -
 {
     let sound = is_name_sound(file, start);
     let there = is_present(present, class);
-    scope::both(sound, scope::both(there, n < STATIC_LIMIT))
+    scope::both(sound, scope::both(there, n < scope::STATIC_LIMIT))
 }
 
 // The count that a name gains behind the first n rows: none at level 1 or below.

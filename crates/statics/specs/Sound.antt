@@ -10,7 +10,8 @@ use Rattle.elf.specs.Readers.{sectionCount, codedSection}
 use Rattle.static_table.specs.declared.Static.{Static}
 use Rattle.static_table.specs.Statics.{namesLength}
 use Rattle.static_table.specs.Table.{Numbered}
-use Rattle.static_entries.specs.Entry.{STATIC_LIMIT, nth, nameSound}
+use Rattle.scope.specs.Limits.{STATIC_LIMIT}
+use Rattle.static_entries.specs.Entry.{nth, nameSound}
 
 -- its name lies in C, and its section is there: one of the codes 1 to 4
 pub record StaticSound (o : ByteOrder) (C : List ℕ) (s : Static) : Type 0 where

@@ -88,7 +88,7 @@ fn print_moved(order: ByteOrder, debug: &[u8], old: u32, new: u32)
 
 // The same of a section of which nothing is known yet.
 fn print_shift(order: ByteOrder, debug: &[u8], old: u32, new: u32) {
-    if debug_shift::shift_fails(order, debug, debug_shift::SHT_MIPS_DEBUG, old, new) {
+    if debug_shift::shift_fails(order, debug, scope::SHT_MIPS_DEBUG, old, new) {
         io::write_all(STDOUT_FILENO, b" refused");
         return;
     }
@@ -101,7 +101,7 @@ fn print_debug(order: ByteOrder, file: &[u8], i: usize, by: u32)
     requires { ⌜ Headed order (now file) × (i < sectionCount order (now file)) ⌝ }
 {
     let h = elf::section_at(order, file, i);
-    if h.sh_type != debug_shift::SHT_MIPS_DEBUG {
+    if h.sh_type != scope::SHT_MIPS_DEBUG {
         return;
     }
     let debug = elf::contents_of(order, file, i);
