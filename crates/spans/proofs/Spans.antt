@@ -27,7 +27,7 @@ use Rattle.spans.specs.Spans.{coded, lineCount, isSpan, spanEnd, covers,
 -- ---- parts of two lists
 
 -- lists that are as long and agree byte by byte
-part-same : (a b : List ℕ) (k w : ℕ) → length (take w (drop k a)) ≡ length (take w (drop k b))
+pub part-same : (a b : List ℕ) (k w : ℕ) → length (take w (drop k a)) ≡ length (take w (drop k b))
     → ((i : ℕ) → i < w → getD a (k + i) 0 ≡ getD b (k + i) 0) → take w (drop k a) ≡ take w (drop k b)
 part-same a b k w e each = ext-getD 0 (take w (drop k a)) (take w (drop k b)) e (λ i h.
     let u : i < w = omega (arith, rw (length-take w (drop k a)) at h) in

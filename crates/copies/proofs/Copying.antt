@@ -1,0 +1,131 @@
+-- The laws of writing a section run by run. Assumes nothing.
+use Prim.Native.Nat.{ℕ, _+_, _≤_, _<_}
+use mathlib.Core.Logic.{_≢_}
+use mathlib.Core.Bool.{false}
+use mathlib.Core.Path.{_≡_, refl, sym, ap, _∙_}
+use mathlib.Core.List.{List}
+use native.Mathlib.Omega.{arith}
+use lib.ListN.{length, take, drop}
+use lib.Seq.{ext-getD, take-add, take-all, length-take-le}
+use Rattle.lists.specs.Windows.{spliced}
+use Rattle.lists.proofs.Ranges.{by-test, count-lt, count-hit}
+use Rattle.lists.proofs.Windows.{length-part, length-spliced, spliced-nil, spliced-then}
+use Rattle.fields.specs.declared.ByteOrder.{ByteOrder}
+use Rattle.elf.specs.Readers.{sectionCount, contents}
+use Rattle.spans.specs.Spans.{coded, lineCount, isSpan, copied}
+use Rattle.spans.specs.Table.{spanCount}
+use Rattle.spans.proofs.Spans.{length-copied, covers-other, covered-none, copied-compiled}
+use Rattle.copies.specs.declared.Run.{Run}
+use Rattle.copies.specs.Runs.{runFrom, runLength, runSource, runBytes, runAt}
+use Rattle.copies.specs.Copying.{Copying, Writing, Wrote}
+use Rattle.copies.proofs.Runs.{IsRun, is-run, source-fits, run-part}
+
+-- ---- one run
+
+module _ (o : ByteOrder) (C B : List ℕ) (c n : ℕ) (table S T : List ℕ) (w : Writing o C B c n table S T) (k : ℕ) (h : k < length S) (r : Run)
+    (is : r ≡ runAt o C B c (length S) k) where
+  this : IsRun o C B c (length S) k r
+  this = rw is (is-run o C B (w .rows .placed) c (length S) k (w .target) h)
+
+  -- it lies inside its source
+  pub run-fits : runFrom r + runLength r ≤ length (runSource S T r)
+  run-fits = source-fits S T (runFrom r + runLength r) r
+      (omega (arith, this .from, this .inside))
+      (λ y. omega (arith, this .from, this .ended (length T) (w .source) y))
+
+  pub run-room : k + runLength r ≤ length S
+  run-room = this .inside
+
+  pub run-wrote : (at x : ℕ) (before after : List ℕ) → (x ≡ runLength r) × (after ≡ spliced before (at + k) (runBytes S T r))
+      → Wrote o C B c S T at k (k + x) before after
+  run-wrote at x before after e = record {
+    next = ap (λ (y : ℕ). k + y) (e .0 ∙ ap runLength is);
+    bytes = e .1 ∙ ap (λ (y : Run). spliced before (at + k) (runBytes S T y)) is;
+  }
+
+-- ---- all runs, one behind the other
+
+-- the first k bytes of the section of code c are written at `at`
+pub record Copied (o : ByteOrder) (C A B : List ℕ) (c at : ℕ) (before : List ℕ) (k : ℕ) (after : List ℕ) : Type 0 where
+  pub few : k ≤ length (coded o C c)
+  pub long : length after ≡ length before
+  pub bytes : after ≡ spliced before at (take k (copied o C A B c))
+
+pub copied-none : (o : ByteOrder) (C A B : List ℕ) (c at : ℕ) (before : List ℕ) → Copied o C A B c at before 0 before
+copied-none o C A B c at before = record { few = omega arith; long = refl; bytes = sym (spliced-nil before at) }
+
+module _ (o : ByteOrder) (C A B : List ℕ) (c n : ℕ) (table : List ℕ) (t s : ℕ) (w : Copying o C A B c n table t s) where
+  -- the bytes of the two sections
+  pub target-is : (S : List ℕ) → S ≡ contents o C t → S ≡ coded o C c
+  unfolding coded
+  target-is S e = e ∙ ap (contents o C) (w .here)
+
+  pub source-is : (T : List ℕ) → T ≡ contents o A s → T ≡ coded o A c
+  unfolding coded
+  source-is T e = e ∙ ap (contents o A) (w .other)
+
+  module _ (S T : List ℕ) (mine : S ≡ contents o C t) (other : T ≡ contents o A s) where
+    pub writing : Writing o C B c n table S T
+    writing = rw (target-is S mine, source-is T other) (record { rows = w .rows; target = w .inside .target; source = w .inside .source })
+
+    module _ (at k r : ℕ) (before m after : List ℕ) (room : at + length (coded o C c) ≤ length before) (h : k < length S)
+        (so-far : Copied o C A B c at before k m) (step : Wrote o C B c S T at k r m after) where
+      l : k < length (coded o C c)
+      l = rw (target-is S mine) at h
+
+      wrote : Wrote o C B c (coded o C c) (coded o A c) at k r m after
+      wrote = rw (target-is S mine, source-is T other) at step
+
+      run : IsRun o C B c (length (coded o C c)) k (runAt o C B c (length (coded o C c)) k)
+      run = is-run o C B (w .rows .placed) c (length (coded o C c)) k (w .inside .target) l
+
+      -- a turn goes on
+      pub copied-more : k < r
+      copied-more = omega (arith, wrote .next, run .some)
+
+      pub copied-few : r ≤ length (coded o C c)
+      copied-few = omega (arith, wrote .next, run .inside)
+
+      pub copied-next : Copied o C A B c at before r after
+      copied-next =
+          let W : List ℕ = copied o C A B c in
+          let n : ℕ = runLength (runAt o C B c (length (coded o C c)) k) in
+          let a : length (take k W) ≡ k = length-take-le k W (rw (length-copied o C A B c) (so-far .few)) in
+          let b : length (take n (drop k W)) ≡ n = length-part W k n (rw (length-copied o C A B c) (run .inside)) in
+          let f : at + k ≡ at + length (take k W) = ap (λ (x : ℕ). at + x) (sym a) in
+          let g : at + k + length (take n (drop k W)) ≤ length before = omega (arith, b, run .inside) in
+          let e : after ≡ spliced before at (take r W) =
+          wrote .bytes
+          ∙ ap (spliced m (at + k)) (run-part o C A B (w .rows .placed) c (w .inside .target) (w .inside .source) k l)
+          ∙ ap (λ (x : List ℕ). spliced x (at + k) (take n (drop k W))) (so-far .bytes)
+          ∙ spliced-then before at (take k W) (take n (drop k W)) (at + k) f g
+          ∙ ap (spliced before at) (sym (take-add k n W) ∙ ap (λ (x : ℕ). take x W) (sym (wrote .next))) in
+          let q : length (take r W) ≡ r = length-take-le r W (rw (length-copied o C A B c) copied-few) in
+          let u : at + length (take r W) ≤ length before = omega (arith, q, copied-few) in
+          record { few = copied-few; long = ap length e ∙ length-spliced before at (take r W) u; bytes = e }
+
+  pub copied-end : (S : List ℕ) (at k : ℕ) (before after : List ℕ) → S ≡ contents o C t → length S ≤ k → Copied o C A B c at before k after
+      → after ≡ spliced before at (copied o C A B c)
+  copied-end S at k before after mine h so-far =
+      let g : length (copied o C A B c) ≤ k = rw (length-copied o C A B c, ← target-is S mine) h in
+      so-far .bytes ∙ ap (spliced before at) (take-all k (copied o C A B c) g)
+
+  -- ---- a section without spans is C's, and for one with spans A has the section
+
+  no-span : n ≡ 0 → (j : ℕ) → j < lineCount B → isSpan o C B c j ≡ false
+  unfolding spanCount
+  no-span e j h = by-test (isSpan o C B c j) (λ y. absurd (omega (arith, count-lt (isSpan o C B c) j (lineCount B) h y, w .rows .many))) (λ f. f)
+
+  pub copied-plain : n ≡ 0 → coded o C c ≡ copied o C A B c
+  copied-plain e = ext-getD 0 (coded o C c) (copied o C A B c) (sym (length-copied o C A B c))
+      (λ i h. sym (copied-compiled o C A B c i (covered-none o C B c i (λ j l. covers-other o C B c i j (no-span e j l)))))
+
+  pub copied-whole : (S : List ℕ) (at : ℕ) (before after : List ℕ) → n ≡ 0 → S ≡ contents o C t → after ≡ spliced before at S
+      → after ≡ spliced before at (copied o C A B c)
+  copied-whole S at before after e mine is = is ∙ ap (spliced before at) (target-is S mine ∙ copied-plain e)
+
+  pub source-there : n ≢ 0 → s < sectionCount o A
+  unfolding spanCount
+  source-there e =
+      let j = count-hit (isSpan o C B c) (lineCount B) 0 (omega (arith, w .rows .many)) in
+      rw (w .other) (w .inside .found (j .0) (j .1) (j .2))

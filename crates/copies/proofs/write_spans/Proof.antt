@@ -1,0 +1,81 @@
+-- `copies::write_spans` meets its contract: before each turn the first k bytes of the section are written, and a turn adds the run at k. Assumes nothing.
+use Rattle.copies.proofs.Copying.{Copied, copied-none, target-is, writing, copied-more, copied-next, copied-end}
+use borrow.Author.Needs.{needs}
+use native.Mathlib.Omega.{arith}
+use Prim.Native.Nat.{_-_}
+use mathlib.Core.Path.{ap}
+use lib.ListN.{length}
+use denote.Ref.{now}
+use Rattle.copies.proofs.write_spans.Statement.{statement}
+use Rattle.copies.proofs.write_spans.Tie as tie
+
+abbrev Inv-loop : tie.InvT-loop
+Inv-loop out₀ at order compiled assembled file code table n target source target-bytes source-bytes k₀ out k =
+    Copied order compiled assembled file code at out₀ k out
+
+abbrev μ-loop : tie.MeasureT-loop
+μ-loop out₀ at order compiled assembled file code table n target source target-bytes source-bytes k₀ out k = length target-bytes - k
+
+contents-of-requires : tie.Need-contents-of-requires Inv-loop μ-loop
+contents-of-requires c κs = search needs
+
+contents-of-requires-2 : tie.Need-contents-of-requires-2 Inv-loop μ-loop
+contents-of-requires-2 c κs = search needs
+
+loop-holds : tie.Need-loop-holds Inv-loop μ-loop
+loop-holds c =
+    let a = c .before .before .before .before .before .before .before .args in
+    copied-none (a .order) (now (a .compiled)) (now (a .assembled)) (now (a .file)) (a .code) (a .at) (now (a .out))
+
+write-run-requires : tie.Need-write-run-requires Inv-loop μ-loop
+write-run-requires c κs =
+    let a = c .before .before .before .before .before .before .before .before .before .before .args in
+    let p = c .before .before .before .before .before .before .before .before .before .before .pre in
+    let l = c .before .before .loop in
+    let e = c .before .before .before .before .contents-of .ensures in
+    let i = target-is (a .order) (now (a .compiled)) (now (a .assembled)) (now (a .file)) (a .code) (a .n) (now (a .table)) (a .target) (a .source) (p .0) _ e in
+    let m = l .inv .long in
+    let q = ap length i in (
+      writing (a .order) (now (a .compiled)) (now (a .assembled)) (now (a .file)) (a .code) (a .n) (now (a .table)) (a .target) (a .source) (p .0) _ _ e (c .before .before .before .contents-of2 .ensures),
+      c .before .loop-test .taken,
+      omega (arith, m, q, p .2),
+    )
+
+loop-less : tie.Need-loop-less Inv-loop μ-loop
+loop-less c =
+    let a = c .before .before .before .before .before .before .before .before .before .before .before .before .before .args in
+    let p = c .before .before .before .before .before .before .before .before .before .before .before .before .before .pre in
+    let l = c .before .before .before .before .before .loop in
+    omega (arith, copied-more (a .order) (now (a .compiled)) (now (a .assembled)) (now (a .file)) (a .code) (a .n) (now (a .table)) (a .target) (a .source) (p .0) _ _ (c .before .before .before .before .before .before .before .contents-of .ensures) (c .before .before .before .before .before .before .contents-of2 .ensures) (a .at) (l .k) _ (now (a .out)) _ _ (p .2) (c .before .before .before .before .loop-test .taken) (l .inv) (c .before .before .write-run .ensures))
+
+loop-again : tie.Need-loop-again Inv-loop μ-loop
+loop-again c =
+    let a = c .before .before .before .before .before .before .before .before .before .before .before .before .before .args in
+    let p = c .before .before .before .before .before .before .before .before .before .before .before .before .before .pre in
+    let l = c .before .before .before .before .before .loop in
+    copied-next (a .order) (now (a .compiled)) (now (a .assembled)) (now (a .file)) (a .code) (a .n) (now (a .table)) (a .target) (a .source) (p .0) _ _ (c .before .before .before .before .before .before .before .contents-of .ensures) (c .before .before .before .before .before .before .contents-of2 .ensures) (a .at) (l .k) _ (now (a .out)) _ _ (p .2) (c .before .before .before .before .loop-test .taken) (l .inv) (c .before .before .write-run .ensures)
+
+same-length : tie.Need-same-length Inv-loop μ-loop
+same-length c = c .before .loop .inv .long
+
+returns : tie.Need-returns Inv-loop μ-loop
+returns c =
+    let a = c .before .before .before .before .before .before .before .before .before .args in
+    let p = c .before .before .before .before .before .before .before .before .before .pre in
+    let l = c .before .loop in
+    copied-end (a .order) (now (a .compiled)) (now (a .assembled)) (now (a .file)) (a .code) (a .n) (now (a .table)) (a .target) (a .source) (p .0) _ (a .at) (l .k) (now (a .out)) _ (c .before .before .before .contents-of .ensures) (c .loop-test .left) (l .inv)
+
+pub write-spans-spec : {M : Type 1} → statement M
+write-spans-spec =
+    tie.close
+    (tie.spec
+    Inv-loop
+    μ-loop
+    contents-of-requires
+    contents-of-requires-2
+    loop-holds
+    write-run-requires
+    loop-less
+    loop-again
+    same-length
+    returns)
