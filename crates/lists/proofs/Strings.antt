@@ -201,8 +201,8 @@ pub name-is-apart : (t s : List ℕ) (at i : ℕ) → i < length s → (getD t (
 name-is-apart t s at i h ne =
     same-ne _ _
     (λ e.
-      let k : i < length (nameAt t at) = rw e h in
-      ne (sym (name-byte t at i k) ∙ ap (λ (l : List ℕ). getD l i 0) e))
+    let k : i < length (nameAt t at) = rw e h in
+    ne (sym (name-byte t at i k) ∙ ap (λ (l : List ℕ). getD l i 0) e))
 
 -- the turns of a loop that compares the name at j, byte by byte, with a string from i on
 module _ (t s : List ℕ) (j i : ℕ) where

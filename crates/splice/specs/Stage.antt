@@ -1,0 +1,43 @@
+-- What the stages have in hand once 11 to 13 have passed, and what the whole call leaves.
+use Prim.Native.Nat.{ℕ, _≤_}
+use mathlib.Core.List.{List}
+use mathlib.Core.Path.{_≡_}
+use lib.ListN.{length}
+use Rattle.fields.specs.declared.ByteOrder.{ByteOrder}
+use Rattle.scope.specs.Limits.{FILE_LIMIT}
+use Rattle.elf.specs.Bounds.{Named}
+use Rattle.symbols.specs.Symbols.{Table}
+use Rattle.blocks.specs.Blocks.{blockCount}
+use Rattle.spans.specs.Table.{Laid}
+use Rattle.line_up.specs.Agrees.{Agrees}
+use Rattle.answers.specs.declared.Outcome.{Outcome}
+use Rattle.answers.specs.Answers.{Answer, outcomeOf, outputOf}
+use Rattle.buffers.specs.Buffers.{zeros}
+
+pub record Stage (o : ByteOrder) (C A B : List ℕ) (table places : List ℕ) (blocks : ℕ) : Type 0 where
+  pub compiled : Named o C
+  pub assembled : Named o A
+  pub laid : Laid o C B table places
+  pub many : blocks ≡ blockCount B
+  pub agrees : Agrees o C A B
+  pub compiledSmall : length C ≤ FILE_LIMIT
+  pub assembledSmall : length A ≤ FILE_LIMIT
+
+-- both objects are read and the blocks are placed: 11 to 13 come next
+pub record Opened (o : ByteOrder) (C A B : List ℕ) (base count : ℕ) (strings table places : List ℕ) (blocks : ℕ) : Type 0 where
+  pub compiled : Named o C
+  pub assembled : Named o A
+  pub symbols : Table o A base count strings
+  pub laid : Laid o C B table places
+  pub many : blocks ≡ blockCount B
+  pub compiledSmall : length C ≤ FILE_LIMIT
+  pub assembledSmall : length A ≤ FILE_LIMIT
+
+-- what the call gives back and leaves: the answer's numbers; the result and zeros past it in the output; zeros in the working buffers
+pub record Spliced (answer : Answer) (r : Outcome) (out outAfter table tableAfter places placesAfter late lateAfter rows rowsAfter : List ℕ) : Type 0 where
+  pub outcome : r ≡ outcomeOf answer
+  pub output : outAfter ≡ outputOf answer (length out)
+  pub tableZero : tableAfter ≡ zeros (length table)
+  pub placesZero : placesAfter ≡ zeros (length places)
+  pub lateZero : lateAfter ≡ zeros (length late)
+  pub rowsZero : rowsAfter ≡ zeros (length rows)

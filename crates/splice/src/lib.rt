@@ -1,0 +1,389 @@
+// The stages of the merge up to the late step: inputs, line-up, block copying and the search for late words, in document 01's order of refusals. The call takes any
+// bytes and any buffer lengths and equals `spliceVerdict` of specs/Verdict.antt; it is no merge, and nothing exports it: a program replays jobs with it.
+ghost use mathlib.Core.Path.{_≡_};
+ghost use Prim.Native.Nat.{_+_, _≤_, _<_};
+ghost use lib.ListN.{length};
+ghost use Rattle.lists.specs.Windows.{spliced};
+ghost use Rattle.elf.specs.Readers.{orderOf};
+ghost use Rattle.symbols.specs.Symbols.{symbolCount, symbolNamed, Table};
+ghost use Rattle.scope.specs.Text.{text};
+ghost use Rattle.missing.specs.Needed.{heldBytes};
+ghost use Rattle.line_up.specs.Lined.{lateLabel, lateStart};
+ghost use Rattle.splicer.specs.Verdict.{roomFor};
+ghost use Rattle.splicer.specs.Answered.{Answered};
+ghost use Rattle.splice.specs.Verdict.{areShort, lateFinding, sectionBytes, spliceBytes, movedAnswer, linedAnswer, takenAnswer, spliceVerdict};
+ghost use Rattle.splice.specs.Stage.{Stage, Opened, Spliced};
+use answers::Outcome;
+use fields::ByteOrder;
+use inputs::Inputs;
+use line_up::LineUp;
+use scope::Finding;
+
+// The least lengths of the working buffers beside those of the inputs.
+pub const LATE_TABLE: usize = 291920;
+
+pub const SPAN_TABLE: usize = 8192;
+
+// Where the late span starts in A, whose start label is there.
+fn late_start(
+    order: ByteOrder,
+    assembled: &[u8],
+    base: usize,
+    count: usize,
+    strings: &[u8],
+) -> usize
+    requires { ⌜ Table order (now assembled) base count (now strings) × (symbolNamed order (now assembled) (lateLabel (text "_start")) < symbolCount order (now assembled)) ⌝ }
+    ensures { λ r. ⌜ r ≡ lateStart order (now (assembled .entry)) ⌝ }
+{
+    let k = labels::joined_symbol(
+        order,
+        assembled,
+        base,
+        count,
+        strings,
+        b"_asmpp_late_rodata",
+        b"_start",
+    );
+    if k < count {
+        let s = symbols::symbol_at(order, assembled, base, k);
+        return s.st_value as usize;
+    }
+    0
+}
+
+// Refusal 14, where the late step runs. It searches C's own .rodata: block copying changes nothing from the last place on.
+fn late_fault(
+    order: ByteOrder,
+    compiled: &[u8],
+    assembled: &[u8],
+    base: usize,
+    count: usize,
+    strings: &[u8],
+    file: &[u8],
+    table: &[u8],
+    places: &[u8],
+    blocks: usize,
+    late: &mut [u8],
+) -> Finding
+    requires { ⌜ Stage order (now compiled) (now assembled) (now file) (now table) (now places) blocks × Table order (now assembled) base count (now strings) × (291920 ≤ length (now late)) ⌝ }
+    ensures { λ r. ⌜ r ≡ lateFinding order (now (compiled .entry)) (now (assembled .entry)) (now (file .entry)) ⌝ }
+{
+    if late_length::late_runs(order, compiled, file, table, places, blocks) {
+        let section = elf::coded_section(order, compiled, scope::RODATA);
+        let rodata = elf::contents_of(order, compiled, section);
+        let start = late_start(order, assembled, base, count, strings);
+        let last = spans::last_end(order, compiled, file, table, places, blocks, scope::RODATA);
+        return late::place_late(
+            order,
+            compiled,
+            file,
+            table,
+            places,
+            blocks,
+            rodata,
+            start,
+            last,
+            late,
+        );
+    }
+    Finding::Clear
+}
+
+// Writes C's section of a code after block copying at `at`.
+fn write_section(
+    out: &mut [u8],
+    at: usize,
+    order: ByteOrder,
+    compiled: &[u8],
+    assembled: &[u8],
+    file: &[u8],
+    table: &[u8],
+    places: &[u8],
+    blocks: usize,
+    code: u32,
+    rows: &mut [u8],
+)
+    requires { ⌜ Stage order (now compiled) (now assembled) (now file) (now table) (now places) blocks × (1 ≤ code) × (code ≤ 3)
+        × (at + heldBytes order (now compiled) code ≤ length (now out)) × (8192 ≤ length (now rows)) ⌝ }
+    ensures { λ _. ⌜ now (out .exit) ≡ spliced (now (out .entry)) at (sectionBytes order (now (compiled .entry)) (now (assembled .entry)) (now (file .entry)) code) ⌝ }
+{
+    let target = elf::coded_section(order, compiled, code);
+    if target < elf::section_count(order, compiled) {
+        let source = elf::coded_section(order, assembled, code);
+        let n = spans::gather_spans(order, compiled, file, table, places, blocks, code, rows);
+        copies::write_copied(
+            out,
+            at,
+            order,
+            compiled,
+            assembled,
+            file,
+            code,
+            rows,
+            n,
+            target,
+            source,
+        );
+        return;
+    }
+}
+
+// The three sections, one behind the other, where there is room for them: refusal 21.
+fn splice_room(
+    out: &mut [u8],
+    order: ByteOrder,
+    compiled: &[u8],
+    assembled: &[u8],
+    file: &[u8],
+    table: &[u8],
+    places: &[u8],
+    blocks: usize,
+    rows: &mut [u8],
+) -> Outcome
+    requires { ⌜ Stage order (now compiled) (now assembled) (now file) (now table) (now places) blocks × (8192 ≤ length (now rows)) ⌝ }
+    ensures { λ r. ⌜ Answered (roomFor (spliceBytes order (now (compiled .entry)) (now (assembled .entry)) (now (file .entry))) (length (now (out .entry)))) r (now (out .entry)) (now (out .exit)) ⌝ }
+{
+    let first = missing::held_bytes(order, compiled, scope::TEXT);
+    let second = first + missing::held_bytes(order, compiled, scope::DATA);
+    let end = second + missing::held_bytes(order, compiled, scope::RODATA);
+    if end <= out.len() {
+        write_section(
+            out,
+            0,
+            order,
+            compiled,
+            assembled,
+            file,
+            table,
+            places,
+            blocks,
+            scope::TEXT,
+            rows,
+        );
+        write_section(
+            out,
+            first,
+            order,
+            compiled,
+            assembled,
+            file,
+            table,
+            places,
+            blocks,
+            scope::DATA,
+            rows,
+        );
+        write_section(
+            out,
+            second,
+            order,
+            compiled,
+            assembled,
+            file,
+            table,
+            places,
+            blocks,
+            scope::RODATA,
+            rows,
+        );
+        return answers::result(end as u64);
+    }
+    answers::refusal(scope::OUTPUT_ROOM, answers::NONE, end as u64)
+}
+
+// The late step, then the sections: refusal 14.
+fn splice_moved(
+    out: &mut [u8],
+    order: ByteOrder,
+    compiled: &[u8],
+    assembled: &[u8],
+    base: usize,
+    count: usize,
+    strings: &[u8],
+    file: &[u8],
+    table: &[u8],
+    places: &[u8],
+    blocks: usize,
+    late: &mut [u8],
+    rows: &mut [u8],
+) -> Outcome
+    requires { ⌜ Stage order (now compiled) (now assembled) (now file) (now table) (now places) blocks × Table order (now assembled) base count (now strings)
+        × (291920 ≤ length (now late)) × (8192 ≤ length (now rows)) ⌝ }
+    ensures { λ r. ⌜ Answered (movedAnswer order (now (compiled .entry)) (now (assembled .entry)) (now (file .entry)) (length (now (out .entry)))) r (now (out .entry)) (now (out .exit)) ⌝ }
+{
+    match late_fault(
+        order,
+        compiled,
+        assembled,
+        base,
+        count,
+        strings,
+        file,
+        table,
+        places,
+        blocks,
+        late,
+    ) {
+        Finding::Clear => splice_room(
+            out,
+            order,
+            compiled,
+            assembled,
+            file,
+            table,
+            places,
+            blocks,
+            rows,
+        ),
+        Finding::At(block) => answers::refusal(scope::LATE_WORDS, answers::COMPILED, block as u64),
+    }
+}
+
+// The line-up, then the late step: refusals 11, 12 and 13.
+fn splice_lined(
+    out: &mut [u8],
+    order: ByteOrder,
+    compiled: &[u8],
+    assembled: &[u8],
+    base: usize,
+    count: usize,
+    strings: &[u8],
+    file: &[u8],
+    table: &[u8],
+    places: &[u8],
+    blocks: usize,
+    late: &mut [u8],
+    rows: &mut [u8],
+) -> Outcome
+    requires { ⌜ Opened order (now compiled) (now assembled) (now file) base count (now strings) (now table) (now places) blocks × (291920 ≤ length (now late)) × (8192 ≤ length (now rows)) ⌝ }
+    ensures { λ r. ⌜ Answered (linedAnswer order (now (compiled .entry)) (now (assembled .entry)) (now (file .entry)) (length (now (out .entry)))) r (now (out .entry)) (now (out .exit)) ⌝ }
+{
+    match line_up::check_line_up(
+        order,
+        compiled,
+        assembled,
+        base,
+        count,
+        strings,
+        file,
+        table,
+        places,
+        blocks,
+    ) {
+        LineUp::LinedUp => splice_moved(
+            out,
+            order,
+            compiled,
+            assembled,
+            base,
+            count,
+            strings,
+            file,
+            table,
+            places,
+            blocks,
+            late,
+            rows,
+        ),
+        LineUp::LacksCompiled(code) => answers::refusal(
+            scope::MISSING_SECTION,
+            answers::COMPILED,
+            code as u64,
+        ),
+        LineUp::LacksAssembled(code) => answers::refusal(
+            scope::MISSING_SECTION,
+            answers::ASSEMBLED,
+            code as u64,
+        ),
+        LineUp::Mislabelled(block) => answers::refusal(
+            scope::BLOCK_LABELS,
+            answers::ASSEMBLED,
+            block as u64,
+        ),
+        LineUp::LateMislabelled => answers::refusal(scope::LATE_LABELS, answers::ASSEMBLED, 0),
+    }
+}
+
+// The inputs, then the line-up.
+fn splice_taken(
+    compiled: &[u8],
+    assembled: &[u8],
+    file: &[u8],
+    out: &mut [u8],
+    table: &mut [u8],
+    places: &mut [u8],
+    late: &mut [u8],
+    rows: &mut [u8],
+) -> Outcome
+    requires { ⌜ (291920 ≤ length (now late)) × (8192 ≤ length (now rows)) ⌝ }
+    ensures { λ r. ⌜ Answered (takenAnswer (now (compiled .entry)) (now (assembled .entry)) (now (file .entry)) (length (now (out .entry))) (length (now (table .entry))) (length (now (places .entry)))) r (now (out .entry)) (now (out .exit)) ⌝ }
+{
+    match inputs::read_inputs(compiled, assembled, file, table, places) {
+        Inputs::Taken(c, a, blocks) => {
+            let order = elf::order_of(compiled);
+            let at = a.symbol_strings;
+            let strings = elf::contents_of(order, assembled, at);
+            splice_lined(
+                out,
+                order,
+                compiled,
+                assembled,
+                a.symbols_at,
+                a.symbols,
+                strings,
+                file,
+                table,
+                places,
+                blocks,
+                late,
+                rows,
+            )
+        }
+        Inputs::Faulty(number, object, place) => answers::refusal(number, object, place),
+    }
+}
+
+// Refusal 1 of the two buffers, then all the others.
+fn splice_all(
+    compiled: &[u8],
+    assembled: &[u8],
+    file: &[u8],
+    out: &mut [u8],
+    table: &mut [u8],
+    places: &mut [u8],
+    late: &mut [u8],
+    rows: &mut [u8],
+) -> Outcome
+    ensures { λ r. ⌜ Answered (spliceVerdict (now (compiled .entry)) (now (assembled .entry)) (now (file .entry)) (length (now (out .entry))) (length (now (table .entry))) (length (now (places .entry))) (length (now (late .entry))) (length (now (rows .entry)))) r (now (out .entry)) (now (out .exit)) ⌝ }
+{
+    if late.len() < LATE_TABLE {
+        return answers::refusal(scope::LIMITS, answers::NONE, 0);
+    }
+    if rows.len() < SPAN_TABLE {
+        return answers::refusal(scope::LIMITS, answers::NONE, 0);
+    }
+    splice_taken(compiled, assembled, file, out, table, places, late, rows)
+}
+
+// All of the stages; the output past the result and the working buffers are zero on return.
+pub fn splice(
+    compiled: &[u8],
+    assembled: &[u8],
+    file: &[u8],
+    out: &mut [u8],
+    table: &mut [u8],
+    places: &mut [u8],
+    late: &mut [u8],
+    rows: &mut [u8],
+) -> Outcome
+    ensures { λ r. ⌜ Spliced (spliceVerdict (now (compiled .entry)) (now (assembled .entry)) (now (file .entry)) (length (now (out .entry))) (length (now (table .entry))) (length (now (places .entry))) (length (now (late .entry))) (length (now (rows .entry)))) r (now (out .entry)) (now (out .exit)) (now (table .entry)) (now (table .exit)) (now (places .entry)) (now (places .exit)) (now (late .entry)) (now (late .exit)) (now (rows .entry)) (now (rows .exit)) ⌝ }
+{
+    let r = splice_all(compiled, assembled, file, out, table, places, late, rows);
+    let end = r.length as usize;
+    buffers::zero_from(out, end);
+    buffers::zero(table);
+    buffers::zero(places);
+    buffers::zero(late);
+    buffers::zero(rows);
+    r
+}
