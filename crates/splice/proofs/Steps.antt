@@ -29,10 +29,12 @@ use Rattle.spans.specs.Spans.{coded, copied, lineCount, isSpan, spanEnd, lastEn
 use Rattle.spans.specs.Table.{spanFrom, Laid, Gathered, Rows}
 use Rattle.spans.proofs.Spans.{length-copied, copied-past}
 use Rattle.spans.proofs.Table.{from-span, from-end, rows-of}
+use Rattle.reginfo.specs.Reginfo.{joined}
+use Rattle.reginfo.proofs.Reginfo.{length-joined}
 use Rattle.block_values.specs.BlockValues.{lateLength}
 use Rattle.late_length.specs.Late.{lateRuns}
 use Rattle.missing.specs.Needed.{hasCode, heldBytes, passes}
-use Rattle.missing.specs.Complete.{There}
+use Rattle.missing.specs.Complete.{There, Complete}
 use Rattle.missing.proofs.Needed.{passes-last}
 use Rattle.missing.proofs.Complete.{has-there, there-has, held-length, held-zero}
 use Rattle.labels.specs.Labels.{isAt}
@@ -52,7 +54,7 @@ use Rattle.draft_lines.specs.Written.{Written}
 use Rattle.splicer.specs.Answered.{Answered}
 use Rattle.splicer.specs.Verdict.{pickAnswer}
 use Rattle.inputs.specs.Read.{Given}
-use Rattle.splice.specs.Verdict.{areShort, ifMoved, lateFinding, sectionBytes, spliceBytes}
+use Rattle.splice.specs.Verdict.{areShort, ifMoved, lateFinding, sectionBytes, registerBytes, spliceBytes}
 use Rattle.splice.specs.Stage.{Stage, Opened, Spliced}
 
 -- ---- lengths
@@ -149,30 +151,86 @@ section-none o C A B c t n before at e f h =
     let g : sectionCount o C ≤ codedSection o C c = omega arith in
     rw (le-ltb _ _ g) (sym (spliced-nil before at))
 
--- the three sections one behind the other
-pub sections-written : (o : ByteOrder) (C A B : List ℕ) (x y z : ℕ) (out a b c : List ℕ) → x ≡ heldBytes o C 1 → y ≡ x + heldBytes o C 2 → z ≡ y + heldBytes o C 3
-    → z ≤ length out → a ≡ spliced out 0 (sectionBytes o C A B 1) → b ≡ spliced a x (sectionBytes o C A B 2) → c ≡ spliced b y (sectionBytes o C A B 3)
-    → Written out 0 (spliceBytes o C A B) z c
-unfolding spliceBytes
-sections-written o C A B x y z out a b c e f g h p q r =
-    let s = sectionBytes o C A B 1 in
-    let t = sectionBytes o C A B 2 in
-    let u = sectionBytes o C A B 3 in
-    let i = held-section o C A B 1 in
-    let j = held-section o C A B 2 in
-    let k = held-section o C A B 3 in
-    let m : length (t ++ u) ≡ length t + length u = length-append t u in
-    let n : length (s ++ (t ++ u)) ≡ length s + length (t ++ u) = length-append s (t ++ u) in
-    let two : spliced (spliced out 0 s) x t ≡ spliced out 0 (s ++ t) = spliced-then out 0 s t x (omega arith) (omega arith) in
-    let v : length (s ++ t) ≡ length s + length t = length-append s t in
-    let three : spliced (spliced out 0 (s ++ t)) y u ≡ spliced out 0 ((s ++ t) ++ u) = spliced-then out 0 (s ++ t) u y (omega arith) (omega arith) in
-    let d : spliced b y u ≡ spliced out 0 (s ++ (t ++ u)) = rw (q, p, two, three, append-assoc s t u) in
-    let w : c ≡ spliced out 0 (s ++ (t ++ u)) = r ∙ d in
-    record {
-      end = omega arith;
-      long = ap length w ∙ length-spliced out 0 (s ++ (t ++ u)) (omega arith);
-      bytes = λ l. w;
-    }
+-- C's .reginfo
+
+pub held-registers : (o : ByteOrder) (C A B : List ℕ) → length (registerBytes o C A B) ≡ heldBytes o C 6
+unfolding registerBytes
+held-registers o C A B =
+    by-test (hasCode o C 6) (λ t. rw (t, held-length o C 6 t) (length-joined (coded o C 6) (coded o A 6))) (λ f. rw (f, held-zero o C 6 f))
+
+pub registers-there : (o : ByteOrder) (C A B : List ℕ) (t u n : ℕ) (own other before after : List ℕ) (at : ℕ) → t ≡ codedSection o C 6 → n ≡ sectionCount o C → t < n → u ≡ codedSection o A 6
+    → own ≡ contents o C t → other ≡ contents o A u → after ≡ spliced before at (joined own other) → after ≡ spliced before at (registerBytes o C A B)
+unfolding registerBytes coded
+registers-there o C A B t u n own other before after at e f h g x y w =
+    let p : own ≡ contents o C (codedSection o C 6) = x ∙ ap (contents o C) e in
+    let q : other ≡ contents o A (codedSection o A 6) = y ∙ ap (contents o A) g in
+    rw (there-has o C 6 (omega arith), ← p, ← q) w
+
+pub registers-none : (o : ByteOrder) (C A B : List ℕ) (t n : ℕ) (before : List ℕ) (at : ℕ) → t ≡ codedSection o C 6 → n ≡ sectionCount o C → n ≤ t
+    → before ≡ spliced before at (registerBytes o C A B)
+unfolding registerBytes hasCode
+registers-none o C A B t n before at e f h =
+    let g : sectionCount o C ≤ codedSection o C 6 = omega arith in
+    rw (le-ltb _ _ g) (sym (spliced-nil before at))
+
+pub own-fits : (o : ByteOrder) (C own : List ℕ) (t n at m : ℕ) → t ≡ codedSection o C 6 → n ≡ sectionCount o C → t < n → own ≡ contents o C t → at + heldBytes o C 6 ≤ m
+    → at + length own ≤ m
+unfolding coded
+own-fits o C own t n at m e f h x l =
+    let p : length own ≡ length (contents o C (codedSection o C 6)) = ap length (x ∙ ap (contents o C) e) in
+    let k = held-length o C 6 (there-has o C 6 (omega arith)) in
+    omega arith
+
+-- the four sections one behind the other
+module _ (o : ByteOrder) (C A B : List ℕ) (x y z e : ℕ) (out : List ℕ) (i : x ≡ heldBytes o C 1) (j : y ≡ x + heldBytes o C 2) (k : z ≡ y + heldBytes o C 3) (l : e ≡ z + heldBytes o C 6) where
+  abbrev pub s : List ℕ
+  s = sectionBytes o C A B 1
+
+  abbrev pub t : List ℕ
+  t = sectionBytes o C A B 2
+
+  abbrev pub u : List ℕ
+  u = sectionBytes o C A B 3
+
+  abbrev pub v : List ℕ
+  v = registerBytes o C A B
+
+  long-s : length s ≡ x
+  long-s = held-section o C A B 1 ∙ sym i
+
+  long-t : x + length t ≡ y
+  long-t = omega (arith, held-section o C A B 2)
+
+  long-u : y + length u ≡ z
+  long-u = omega (arith, held-section o C A B 3)
+
+  long-v : z + length v ≡ e
+  long-v = omega (arith, held-registers o C A B)
+
+  long-all : e ≡ 0 + length (s ++ (t ++ (u ++ v)))
+  long-all = omega (arith, long-s, long-t, long-u, long-v, length-append s (t ++ (u ++ v)), length-append t (u ++ v), length-append u v)
+
+  pub sections-written : (a b c d : List ℕ) → e ≤ length out → a ≡ spliced out 0 s → b ≡ spliced a x t → c ≡ spliced b y u → d ≡ spliced c z v
+      → Written out 0 (spliceBytes o C A B) e d
+  unfolding spliceBytes
+  sections-written a b c d h p q r w =
+      let m : length (s ++ t) ≡ y = omega (arith, long-s, long-t, length-append s t) in
+      let n : length ((s ++ t) ++ u) ≡ z = omega (arith, long-u, length-append (s ++ t) u) in
+      let two : spliced (spliced out 0 s) x t ≡ spliced out 0 (s ++ t) = spliced-then out 0 s t x (omega (arith, long-s)) (omega (arith, long-t, long-u, long-v)) in
+      let three : spliced (spliced out 0 (s ++ t)) y u ≡ spliced out 0 ((s ++ t) ++ u) = spliced-then out 0 (s ++ t) u y (omega arith) (omega (arith, long-u, long-v)) in
+      let four : spliced (spliced out 0 ((s ++ t) ++ u)) z v ≡ spliced out 0 (((s ++ t) ++ u) ++ v) = spliced-then out 0 ((s ++ t) ++ u) v z (omega arith) (omega (arith, long-v)) in
+      let g : ((s ++ t) ++ u) ++ v ≡ s ++ (t ++ (u ++ v)) = append-assoc (s ++ t) u v ∙ append-assoc s t (u ++ v) in
+      let f : d ≡ spliced out 0 (s ++ (t ++ (u ++ v))) = w ∙ rw (r, q, p, two, three, four, g) in
+      record {
+        end = long-all;
+        long = ap length f ∙ length-spliced out 0 (s ++ (t ++ (u ++ v))) (omega (arith, long-all));
+        bytes = λ l. f;
+      }
+
+  -- nothing is written where there is no room
+  pub sections-unwritten : length out < e → Written out 0 (spliceBytes o C A B) e out
+  unfolding spliceBytes
+  sections-unwritten h = record { end = long-all; long = refl; bytes = λ l. absurd (omega (arith, long-all)) }
 
 -- ---- the verdict, step by step
 
@@ -266,21 +324,6 @@ below-as t n m h e = omega arith
 pub held-fits : (o : ByteOrder) (C : List ℕ) (c t n at m : ℕ) → t ≡ codedSection o C c → n ≡ sectionCount o C → t < n → at + heldBytes o C c ≤ m → at + length (coded o C c) ≤ m
 held-fits o C c t n at m e f h l = rw (← held-length o C c (there-has o C c (omega arith))) l
 
--- nothing is written where there is no room
-pub sections-unwritten : (o : ByteOrder) (C A B : List ℕ) (x y z : ℕ) (out : List ℕ) → x ≡ heldBytes o C 1 → y ≡ x + heldBytes o C 2 → z ≡ y + heldBytes o C 3
-    → length out < z → Written out 0 (spliceBytes o C A B) z out
-unfolding spliceBytes
-sections-unwritten o C A B x y z out e f g h =
-    let s = sectionBytes o C A B 1 in
-    let t = sectionBytes o C A B 2 in
-    let u = sectionBytes o C A B 3 in
-    let i = held-section o C A B 1 in
-    let j = held-section o C A B 2 in
-    let k = held-section o C A B 3 in
-    let m : length (t ++ u) ≡ length t + length u = length-append t u in
-    let n : length (s ++ (t ++ u)) ≡ length s + length (t ++ u) = length-append s (t ++ u) in
-    record { end = omega arith; long = refl; bytes = λ l. absurd (omega arith) }
-
 pub stage-of : (o : ByteOrder) (C A B : List ℕ) (base count : ℕ) (strings table places : List ℕ) (blocks : ℕ) → Opened o C A B base count strings table places blocks
     → lineUp o C A B ≡ LinedUp → Stage o C A B table places blocks
 stage-of o C A B base count strings table places blocks p e = record {
@@ -292,3 +335,7 @@ stage-of o C A B base count strings table places blocks p e = record {
   compiledSmall = p .compiledSmall;
   assembledSmall = p .assembledSmall;
 }
+
+-- A has .reginfo where C has one
+pub other-there : (o : ByteOrder) (C A B : List ℕ) (t n u : ℕ) → Complete o C A B → t ≡ codedSection o C 6 → n ≡ sectionCount o C → t < n → u ≡ codedSection o A 6 → u < sectionCount o A
+other-there o C A B t n u p e f h g = rw g (p .reginfo (omega arith))

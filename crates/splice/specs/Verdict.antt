@@ -1,5 +1,5 @@
 -- The stages of the merge up to the late step, whole (document 01, "Order"): 1; C by 2 to 6; 7; blocks by 8 and 9; A by 2 to 6; 11, 12 and 13; 14; then 21.
--- Refusal 10 comes with the relocations. The result is .text, .data and .rodata after block copying, one behind the other.
+-- Refusal 10 comes with the relocations. The result is .text, .data and .rodata after block copying, and .reginfo, one behind the other.
 use Prim.Native.Nat.{ℕ}
 use mathlib.Core.Bool.{Bool, _||_}
 use mathlib.Core.List.{List, [], _++_}
@@ -11,7 +11,8 @@ use Rattle.scope.specs.declared.Finding.the-variants.{Clear, At}
 use Rattle.scope.specs.Refusals.{LIMITS, LATE_WORDS, pickFinding, foundBelow}
 use Rattle.elf.specs.Readers.{orderOf}
 use Rattle.blocks.specs.Blocks.{blockCount}
-use Rattle.spans.specs.Spans.{copied}
+use Rattle.spans.specs.Spans.{coded, copied}
+use Rattle.reginfo.specs.Reginfo.{joined}
 use Rattle.late_length.specs.Late.{lateRuns}
 use Rattle.missing.specs.Needed.{hasCode}
 use Rattle.moves.specs.Moves.{lateFault}
@@ -43,8 +44,12 @@ module _ (o : ByteOrder) (C A B : List ℕ) where
   unfoldable pub sectionBytes : ℕ → List ℕ
   sectionBytes c = pickList (hasCode o C c) (copied o C A B c) []
 
+  -- C's .reginfo with A's ORed into it
+  unfoldable pub registerBytes : List ℕ
+  registerBytes = pickList (hasCode o C 6) (joined (coded o C 6) (coded o A 6)) []
+
   unfoldable pub spliceBytes : List ℕ
-  spliceBytes = sectionBytes 1 ++ (sectionBytes 2 ++ sectionBytes 3)
+  spliceBytes = sectionBytes 1 ++ (sectionBytes 2 ++ (sectionBytes 3 ++ registerBytes))
 
   -- behind 13
   unfoldable pub movedAnswer : ℕ → Answer

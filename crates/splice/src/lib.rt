@@ -11,7 +11,7 @@ ghost use Rattle.missing.specs.Needed.{heldBytes};
 ghost use Rattle.line_up.specs.Lined.{lateLabel, lateStart};
 ghost use Rattle.splicer.specs.Verdict.{roomFor};
 ghost use Rattle.splicer.specs.Answered.{Answered};
-ghost use Rattle.splice.specs.Verdict.{areShort, lateFinding, sectionBytes, spliceBytes, movedAnswer, linedAnswer, takenAnswer, spliceVerdict};
+ghost use Rattle.splice.specs.Verdict.{areShort, lateFinding, sectionBytes, registerBytes, spliceBytes, movedAnswer, linedAnswer, takenAnswer, spliceVerdict};
 ghost use Rattle.splice.specs.Stage.{Stage, Opened, Spliced};
 use answers::Outcome;
 use fields::ByteOrder;
@@ -128,7 +128,32 @@ fn write_section(
     }
 }
 
-// The three sections, one behind the other, where there is room for them: refusal 21.
+// Writes C's .reginfo, with A's ORed into it, at `at`.
+fn write_registers(
+    out: &mut [u8],
+    at: usize,
+    order: ByteOrder,
+    compiled: &[u8],
+    assembled: &[u8],
+    file: &[u8],
+    table: &[u8],
+    places: &[u8],
+    blocks: usize,
+)
+    requires { ⌜ Stage order (now compiled) (now assembled) (now file) (now table) (now places) blocks × (at + heldBytes order (now compiled) 6 ≤ length (now out)) ⌝ }
+    ensures { λ _. ⌜ now (out .exit) ≡ spliced (now (out .entry)) at (registerBytes order (now (compiled .entry)) (now (assembled .entry)) (now (file .entry))) ⌝ }
+{
+    let target = elf::coded_section(order, compiled, scope::REGINFO);
+    if target < elf::section_count(order, compiled) {
+        let source = elf::coded_section(order, assembled, scope::REGINFO);
+        let own = elf::contents_of(order, compiled, target);
+        let other = elf::contents_of(order, assembled, source);
+        reginfo::write_reginfo(out, at, own, other);
+        return;
+    }
+}
+
+// The four sections, one behind the other, where there is room for them: refusal 21.
 fn splice_room(
     out: &mut [u8],
     order: ByteOrder,
@@ -145,7 +170,8 @@ fn splice_room(
 {
     let first = missing::held_bytes(order, compiled, scope::TEXT);
     let second = first + missing::held_bytes(order, compiled, scope::DATA);
-    let end = second + missing::held_bytes(order, compiled, scope::RODATA);
+    let third = second + missing::held_bytes(order, compiled, scope::RODATA);
+    let end = third + missing::held_bytes(order, compiled, scope::REGINFO);
     if end <= out.len() {
         write_section(
             out,
@@ -185,6 +211,17 @@ fn splice_room(
             blocks,
             scope::RODATA,
             rows,
+        );
+        write_registers(
+            out,
+            third,
+            order,
+            compiled,
+            assembled,
+            file,
+            table,
+            places,
+            blocks,
         );
         return answers::result(end as u64);
     }
