@@ -1,7 +1,8 @@
 #!/usr/bin/env python3
 """Makes the list of jobs that the program statics_jobs replays, and what it must print.
 
-  tools/statics_jobs.py        writes crates/statics_jobs/{data/jobs,args,stdout}
+  tools/statics_jobs.py           writes crates/statics_jobs/{data/jobs,args,stdout}
+  tools/statics_jobs.py FOLDER    writes jobs that take long into FOLDER: entries, names; time `target/bin/statics_jobs FOLDER/entries`
 
 A job is an object with a debug section, a statics mode, a path, and by how much its debug sections move. Some objects come from gas -mdebug of Debian's
 binutils-mips-linux-gnu, some are made here to stand at a limit, and some are those with a byte changed. What must be printed comes from the model of
@@ -49,11 +50,13 @@ def source(r):
 def assembled(count, seed):
     r, out = random.Random(seed), []
     with tempfile.TemporaryDirectory() as d:
-        s, o = os.path.join(d, 'in.s'), os.path.join(d, 'o')
+        # The source is named without a folder: the debug section stores its name.
         for _ in range(count):
-            open(s, 'w').write(source(r))
-            subprocess.run(['mips-linux-gnu-as', '-32', '-EB', '-mdebug', '-o', o, s], check=True)
-            out.append(open(o, 'rb').read())
+            with open(os.path.join(d, 'in.s'), 'w') as f:
+                f.write(source(r))
+            subprocess.run(['mips-linux-gnu-as', '-32', '-EB', '-mdebug', '-o', 'o', 'in.s'], check=True, cwd=d)
+            with open(os.path.join(d, 'o'), 'rb') as f:
+                out.append(f.read())
     return out
 
 
@@ -223,12 +226,28 @@ def answer(b, mode, path, by):
     return out
 
 
+def hostile():
+    """jobs that take long, by name: 3,200 file records over the same 67,000 entries; 4,096 counted statics whose names have one length, begin alike and end alike"""
+    yield 'entries', made([[]] * 3199 + [[entry(5)] * 67000], counts=[67000] * 3200)
+    names = [b'x' * 233 + b'%04dy' % k + b'\0' for k in range(4096)]
+    yield 'names', made([scoped(*[entry(STATIC, DATA, 239 * k) for k in range(4096)])], strings=b''.join(names))
+
+
+def packed(b, mode, path, by):
+    return struct.pack('>4I', len(b), mode, len(path), by) + b + path
+
+
 def main():
+    if len(sys.argv) > 1:
+        for name, b in hostile():
+            with open(os.path.join(sys.argv[1], name), 'wb') as f:
+                f.write(packed(b, 1, b'', 0))
+        return
     os.makedirs(os.path.join(OUT, 'data'), exist_ok=True)
     data, lines, listed = b'', b'', 0
     every = jobs()
     for k, (b, mode, path, by) in enumerate(every):
-        data += struct.pack('>4I', len(b), mode, len(path), by) + b + path
+        data += packed(b, mode, path, by)
         a = answer(b, mode, path, by)
         listed += a.startswith(b'listed')
         lines += f'job {k} '.encode() + a
