@@ -336,3 +336,16 @@ fn the_version() {
     let line = concat!("daphulle ", env!("CARGO_PKG_VERSION"), "\n").as_bytes();
     assert_eq!(ended(&run(&folder, &["--version"])), (0, line, ""));
 }
+
+/// The command that the README at the top gives, run there word for word.
+#[test]
+fn the_command_of_the_readme() {
+    let top = concat!(env!("CARGO_MANIFEST_DIR"), "/..");
+    let readme = fs::read_to_string(format!("{top}/README.md")).unwrap();
+    let given = readme.split("&& host/target/release/daphulle ").nth(1);
+    let words = given.unwrap().lines().next().unwrap().split(' ');
+    let output = Command::new(COMMAND).args(words).current_dir(top).output();
+    let output = output.unwrap();
+    assert_eq!((output.status.code(), &output.stdout[..]), (Some(0), DRAFT));
+    assert!(output.stderr.is_empty());
+}
