@@ -4,8 +4,8 @@
   tools/splice_jobs.py            writes crates/splice_jobs/{data/jobs,args,stdout}
 
 A job is a compiled object, an assembled one and a block file. What is expected comes from the model of document 01 (MODEL, by default ../shared/model): the
-refusals of both objects, of the block file and of places, then 11 to 14; or the bytes of .text, .data and .rodata after block copying (and before late moves) and of
-.reginfo, one behind the other. Real jobs come from Debian's gcc-mips-linux-gnu and binutils-mips-linux-gnu: the model's draft is assembled. The program has no say.
+refusals of both objects, of the block file and of places, then 11 to 14; or the bytes that the merge writes over C's .text, .data, .rodata and .reginfo, one behind
+the other. Real jobs come from Debian's gcc-mips-linux-gnu and binutils-mips-linux-gnu: the model's draft is assembled. The program has no say.
 """
 import os
 import random
@@ -198,9 +198,10 @@ def expected(compiled, assembled, file):
         if any(s.code == code for s in spans):
             held[code] = model.copy_spans(held[code], a.sections[model.find(a, code)].data, spans, code)
     if late:
-        block, _ = model.late_moves(c, a, blocks, spans, live)
+        block, moves = model.late_moves(c, a, blocks, spans, live)
         if block is not None:
             return 'refused', 14, 1, block
+        held[model.RODATA] = moves.rodata
     if held[model.REGINFO]:
         held[model.REGINFO] = model.or_reginfo(held[model.REGINFO], a.sections[model.find(a, model.REGINFO)].data)
     return 'ok', b''.join(held[code] for code in (model.TEXT, model.DATA, model.RODATA, model.REGINFO))

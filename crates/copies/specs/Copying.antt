@@ -1,5 +1,5 @@
 -- What writing a section after block copying relies on, and what it leaves.
-use Prim.Native.Nat.{ℕ, _+_, _<_}
+use Prim.Native.Nat.{ℕ, _+_, _≤_, _<_}
 use mathlib.Core.Path.{_≡_}
 use mathlib.Core.Bool.{true}
 use mathlib.Core.List.{List}
@@ -28,13 +28,20 @@ pub record Copying (o : ByteOrder) (C A B : List ℕ) (c n : ℕ) (table : List 
   pub there : t < sectionCount o C
   pub other : s ≡ codedSection o A c
 
--- the code's n rows are in hand, and every span ends inside S and T, the bytes of C's section and of A's
-pub record Writing (o : ByteOrder) (C B : List ℕ) (c n : ℕ) (table S T : List ℕ) : Type 0 where
+-- and the first `size` bytes of the section are asked for, behind which no span ends
+pub record Front (o : ByteOrder) (C A B : List ℕ) (c n : ℕ) (table : List ℕ) (t s size : ℕ) : Type 0 where
+  pub copying : Copying o C A B c n table t s
+  pub few : size ≤ length (coded o C c)
+  pub ends : EndsBy o C B c size
+
+-- the code's n rows are in hand, and every span ends inside the first `size` bytes of S and inside T, the bytes of C's section and of A's
+pub record Writing (o : ByteOrder) (C B : List ℕ) (c n size : ℕ) (table S T : List ℕ) : Type 0 where
   pub rows : Rows o C B c n table
-  pub target : EndsBy o C B c (length S)
+  pub few : size ≤ length S
+  pub target : EndsBy o C B c size
   pub source : EndsBy o C B c (length T)
 
 -- the run at offset k is written behind `at`, and r is where the next one begins
-pub record Wrote (o : ByteOrder) (C B : List ℕ) (c : ℕ) (S T : List ℕ) (at k r : ℕ) (before after : List ℕ) : Type 0 where
-  pub next : r ≡ k + runLength (runAt o C B c (length S) k)
-  pub bytes : after ≡ spliced before (at + k) (runBytes S T (runAt o C B c (length S) k))
+pub record Wrote (o : ByteOrder) (C B : List ℕ) (c size : ℕ) (S T : List ℕ) (at k r : ℕ) (before after : List ℕ) : Type 0 where
+  pub next : r ≡ k + runLength (runAt o C B c size k)
+  pub bytes : after ≡ spliced before (at + k) (runBytes S T (runAt o C B c size k))

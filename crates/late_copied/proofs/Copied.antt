@@ -13,8 +13,8 @@ use Rattle.places.specs.Walk.{placing}
 use Rattle.spans.specs.Spans.{coded, lastEnd, copied}
 use Rattle.spans.proofs.Spans.{length-copied, copied-past}
 use Rattle.moves.specs.Moves.{lateFault}
-use Rattle.moves.specs.Moved.{movedPlace, isJumpWord, lateByte}
-use Rattle.moves.proofs.Agree.{late-fault-agree, moved-place-agree, jump-word-agree}
+use Rattle.moves.specs.Moved.{movedPlace, isJumpWord, lateByte, lateRodata}
+use Rattle.moves.proofs.Agree.{late-fault-agree, moved-place-agree, jump-word-agree, late-rest-agree}
 use Rattle.late.specs.Table.{Walk, Moves}
 use Rattle.late.proofs.Agree.{walk-agree, moves-agree}
 use Rattle.late_runs.specs.Runs.{runAt}
@@ -50,3 +50,8 @@ module _ (o : ByteOrder) (C A B : List ℕ) (p : placing o C B ≡ Placed) where
   pub runs-copied : (s : ℕ) (L : List ℕ) (x : ℕ) → endAt o C B (4 * blockCount B) 3 ≤ x → x < length (copied o C A B 3)
       → IsRun (copied o C A B 3) L (lateByte o C B (copied o C A B 3) s L) x (runAt o C B (coded o C 3) s x)
   runs-copied = run-copied o C B (coded o C 3) (copied o C A B 3) long agree
+
+  -- and the final .rodata from the end of the last .rodata block copied on
+  pub rest-copied : (s : ℕ) (L : List ℕ)
+      → drop (endAt o C B (4 * blockCount B) 3) (lateRodata o C B (coded o C 3) s L) ≡ drop (endAt o C B (4 * blockCount B) 3) (lateRodata o C B (copied o C A B 3) s L)
+  rest-copied = late-rest-agree o C B (coded o C 3) (copied o C A B 3) long agree

@@ -1,12 +1,13 @@
 -- Two versions of .rodata that have one length and are equal from the end of the last .rodata block copied on have the same late step: no search looks at
 -- a byte before that end. So C's own bytes are searched in place of those after block copying. Assumes nothing.
-use Prim.Native.Nat.{ℕ, zero, suc, _+_, _*_, _≤_}
+use Prim.Native.Nat.{ℕ, zero, suc, _+_, _-_, _*_, _≤_, _<_}
 use mathlib.Core.Path.{_≡_, sym, ap, _∙_}
 use mathlib.Core.Bool.{Bool, _&&_}
 use mathlib.Core.List.{List}
 use native.Mathlib.Numerals.{add-one}
 use native.Mathlib.Omega.{arith}
-use lib.ListN.{length, drop, getD}
+use lib.ListN.{length, drop, getD, length-drop}
+use lib.Seq.{ext-getD, getD-drop}
 use Rattle.lists.proofs.Ranges.{by-lt}
 use Rattle.fields.specs.declared.ByteOrder.{ByteOrder}
 use Rattle.blocks.specs.Blocks.{blockCount}
@@ -16,8 +17,9 @@ use Rattle.dummies.specs.Dummies.{found, shifts, placed, isLost}
 use Rattle.dummies.proofs.Dummies.{word-agree, found-agree, found-low}
 use Rattle.moves.specs.Rows.{rowIn, columnIn}
 use Rattle.moves.specs.Moves.{isDummy, firstOfMany, itemLength, itemPlace, itemFault, items, lateFrom, lastPlace, place, isFaulty, lateFault, isShifted}
-use Rattle.moves.specs.Moved.{tableWord, isJumpWord, covers, zeroes, movedBlock, movedItem, placeOf, movedPlace, offsetOf, coveredBy, lateByte}
+use Rattle.moves.specs.Moved.{tableWord, isJumpWord, covers, zeroes, movedBlock, movedItem, placeOf, movedPlace, offsetOf, coveredBy, lateByte, lateRodata}
 use Rattle.moves.proofs.Rows.{row-same, column-same, has-row-same}
+use Rattle.moves.proofs.Moved.{length-late, late-at}
 use Rattle.moves.proofs.Moves.{place-dummy, place-table, fault-dummy, fault-table, late-zero, late-next, last-zero, last-next, last-past}
 
 module _ (o : ByteOrder) (R S : List ℕ) (a : ℕ) (long : length R ≡ length S) (agree : drop a R ≡ drop a S) (many : Bool) (last w : ℕ) (h : a ≤ last) where
@@ -118,3 +120,18 @@ module _ (o : ByteOrder) (C B R S : List ℕ) (long : length R ≡ length S)
         place-agree (rowIn (covers o C B S x) (items o C B) n) (columnIn (covers o C B S x) (items o C B) n),
         e,
       )
+
+  -- so the final .rodata is the same from the end of the last .rodata block copied on
+  pub late-rest-agree : (s : ℕ) (L : List ℕ) → drop (endAt o C B (4 * blockCount B) 3) (lateRodata o C B R s L) ≡ drop (endAt o C B (4 * blockCount B) 3) (lateRodata o C B S s L)
+  late-rest-agree s L =
+      let e = endAt o C B (4 * blockCount B) 3 in
+      let m : length (drop e (lateRodata o C B R s L)) ≡ length R - e = rw (length-drop e (lateRodata o C B R s L), length-late o C B R s L) in
+      let n : length (drop e (lateRodata o C B S s L)) ≡ length S - e = rw (length-drop e (lateRodata o C B S s L), length-late o C B S s L) in
+      ext-getD 0 (drop e (lateRodata o C B R s L)) (drop e (lateRodata o C B S s L)) (m ∙ rw long (sym n)) (λ j h.
+      let l : e + j < length R = omega (arith, m) in
+      let g : getD R (e + j) 0 ≡ getD S (e + j) 0 = sym (getD-drop e R j 0) ∙ ap (λ (l : List ℕ). getD l j 0) agree ∙ getD-drop e S j 0 in
+      getD-drop e (lateRodata o C B R s L) j 0
+      ∙ late-at o C B R s L (e + j) l
+      ∙ late-byte-agree s L (e + j) g
+      ∙ sym (late-at o C B S s L (e + j) (omega (arith, long)))
+      ∙ sym (getD-drop e (lateRodata o C B S s L) j 0))

@@ -295,13 +295,13 @@ module _ (o : ByteOrder) (C B R : List ℕ) where
               ⊎-elim (λ v. absurd (omega (arith, z .3))) (λ v. absurd (omega (arith, z .2))) (b i k g l (z .0)))
               (λ f. f)
 
-      -- so is one in front of the end of the last .rodata block copied
-      pub word-front : (x : ℕ) → x + 4 ≤ length R → x + 4 ≤ endAt o C B (4 * blockCount B) 3
-          → take 4 (drop x (lateRodata o C B R s L)) ≡ take 4 (drop x R)
-      word-front x h g = part-same (lateRodata o C B R s L) R x x 4 (rw length-late h) h (λ j u.
+      -- so are w bytes in front of the end of the last .rodata block copied
+      pub front-same : (x w : ℕ) → x + w ≤ length R → x + w ≤ endAt o C B (4 * blockCount B) 3
+          → take w (drop x (lateRodata o C B R s L)) ≡ take w (drop x R)
+      front-same x w h g = part-same (lateRodata o C B R s L) R x x w (rw length-late h) h (λ j u.
           late-out (x + j) (omega arith) (λ i k a b. cover-past (x + j) i k (omega arith)) (λ i k a b. unzeroed j u i k))
         where
-          unzeroed : (j : ℕ) → j < 4 → (i k : ℕ) → zeroes o C B R (x + j) i k ≡ false
+          unzeroed : (j : ℕ) → j < w → (i k : ℕ) → zeroes o C B R (x + j) i k ≡ false
           unzeroed j u i k = by-test (zeroes o C B R (x + j) i k)
               (λ t. absurd (omega (arith, zero-in (x + j) i k t .1, last-past o C B R i k)))
               (λ f. f)

@@ -151,30 +151,31 @@ unfolding runSource copiedByte
 source-byte o C A B c k (Compiled from n) e = rw e
 source-byte o C A B c k (Assembled from n) e = rw e
 
-module _ (o : ByteOrder) (C A B : List ℕ) (p : placing o C B ≡ Placed) (c : ℕ)
-    (target : EndsBy o C B c (length (coded o C c))) (source : EndsBy o C B c (length (coded o A c))) where
-  module _ (k : ℕ) (h : k < length (coded o C c)) where
+module _ (o : ByteOrder) (C A B : List ℕ) (p : placing o C B ≡ Placed) (c : ℕ) (source : EndsBy o C B c (length (coded o A c))) where
+  -- the runs of the first m bytes of a section, behind which no span ends
+  module _ (m : ℕ) (few : m ≤ length (coded o C c)) (target : EndsBy o C B c m) (k : ℕ) (h : k < m) where
     -- byte i of the run is the section's byte at k + i after block copying
-    pub run-byte : (i : ℕ) → i < runLength (runAt o C B c (length (coded o C c)) k)
-        → getD (runSource (coded o C c) (coded o A c) (runAt o C B c (length (coded o C c)) k)) (k + i) 0 ≡ copiedByte o C A B c (k + i)
-    run-byte i l = source-byte o C A B c (k + i) _ (is-run o C B p c (length (coded o C c)) k target h .covered i l)
+    pub run-byte : (i : ℕ) → i < runLength (runAt o C B c m k)
+        → getD (runSource (coded o C c) (coded o A c) (runAt o C B c m k)) (k + i) 0 ≡ copiedByte o C A B c (k + i)
+    run-byte i l = source-byte o C A B c (k + i) _ (is-run o C B p c m k target h .covered i l)
 
     -- and its bytes are that part of the section
-    pub run-part : runBytes (coded o C c) (coded o A c) (runAt o C B c (length (coded o C c)) k)
-        ≡ take (runLength (runAt o C B c (length (coded o C c)) k)) (drop k (copied o C A B c))
+    pub run-part : runBytes (coded o C c) (coded o A c) (runAt o C B c m k) ≡ take (runLength (runAt o C B c m k)) (drop k (copied o C A B c))
     unfolding runBytes
     run-part =
-        let r = runAt o C B c (length (coded o C c)) k in
-        let w = is-run o C B p c (length (coded o C c)) k target h in
+        let r = runAt o C B c m k in
+        let w = is-run o C B p c m k target h in
         let f : k + runLength r ≤ length (runSource (coded o C c) (coded o A c) r) =
-        source-fits (coded o C c) (coded o A c) (k + runLength r) r (w .inside) (w .ended (length (coded o A c)) source) in
-        let g : k + runLength r ≤ length (copied o C A B c) = rw (length-copied o C A B c) (w .inside) in
+        source-fits (coded o C c) (coded o A c) (k + runLength r) r (omega (arith, w .inside)) (w .ended (length (coded o A c)) source) in
+        let g : k + runLength r ≤ length (copied o C A B c) = rw (length-copied o C A B c) (omega (arith, w .inside)) in
         rw (w .from) (part-same (runSource (coded o C c) (coded o A c) r) (copied o C A B c) k (runLength r)
         (length-part (runSource (coded o C c) (coded o A c) r) k (runLength r) f ∙ sym (length-part (copied o C A B c) k (runLength r) g))
         (λ i l. run-byte i l ∙ sym (copied-at o C A B c (k + i) (omega (arith, w .inside)))))
 
   -- the runs of a section, one behind the other, are the section after block copying
-  pub runs-copied : flat (runBytes (coded o C c) (coded o A c)) (runs o C B c (length (coded o C c))) ≡ copied o C A B c
+  pub runs-copied : EndsBy o C B c (length (coded o C c)) → flat (runBytes (coded o C c) (coded o A c)) (runs o C B c (length (coded o C c))) ≡ copied o C A B c
   unfolding runs
-  runs-copied = pieces-whole (runBytes (coded o C c) (coded o A c)) runLength (runAt o C B c (length (coded o C c))) (copied o C A B c) (length (coded o C c))
-      (length-copied o C A B c) (λ k h. is-run o C B p c (length (coded o C c)) k target h .some) run-part
+  runs-copied target =
+      let m = length (coded o C c) in
+      pieces-whole (runBytes (coded o C c) (coded o A c)) runLength (runAt o C B c m) (copied o C A B c) m
+      (length-copied o C A B c) (λ k h. is-run o C B p c m k target h .some) (λ k h. run-part m (omega arith) target k h)

@@ -1,18 +1,16 @@
-// The stages of the merge up to the late step: inputs, line-up, block copying and the search for late words, in document 01's order of refusals. The call takes any
+// The stages of the merge up to the late step: inputs, line-up, block copying, late words and .reginfo, in document 01's order of refusals. The call takes any
 // bytes and any buffer lengths and equals `spliceVerdict` of specs/Verdict.antt; it is no merge, and nothing exports it: a program replays jobs with it.
 ghost use mathlib.Core.Path.{_≡_};
-ghost use Prim.Native.Nat.{_+_, _≤_, _<_};
+ghost use Prim.Native.Nat.{_+_, _≤_};
 ghost use lib.ListN.{length};
 ghost use Rattle.lists.specs.Windows.{spliced};
-ghost use Rattle.elf.specs.Readers.{orderOf};
-ghost use Rattle.symbols.specs.Symbols.{symbolCount, symbolNamed, Table};
-ghost use Rattle.scope.specs.Text.{text};
+ghost use Rattle.symbols.specs.Symbols.{Table};
 ghost use Rattle.missing.specs.Needed.{heldBytes};
-ghost use Rattle.line_up.specs.Lined.{lateLabel, lateStart};
+ghost use Rattle.splice_sections.specs.Stage.{Stage, Movable};
 ghost use Rattle.splicer.specs.Verdict.{roomFor};
 ghost use Rattle.splicer.specs.Answered.{Answered};
-ghost use Rattle.splice.specs.Verdict.{areShort, lateFinding, sectionBytes, registerBytes, spliceBytes, movedAnswer, linedAnswer, takenAnswer, spliceVerdict};
-ghost use Rattle.splice.specs.Stage.{Stage, Opened, Spliced};
+ghost use Rattle.splice.specs.Verdict.{spliceBytes, movedAnswer, linedAnswer, takenAnswer, spliceVerdict};
+ghost use Rattle.splice.specs.Stage.{Opened, Ends, Spliced};
 use answers::Outcome;
 use fields::ByteOrder;
 use inputs::Inputs;
@@ -24,148 +22,103 @@ pub const LATE_TABLE: usize = 291920;
 
 pub const SPAN_TABLE: usize = 8192;
 
-// Where the late span starts in A, whose start label is there.
-fn late_start(
+// Writes the four sections, one behind the other; the first three end at first, second and third.
+fn write_sections(
+    out: &mut [u8],
     order: ByteOrder,
+    compiled: &[u8],
     assembled: &[u8],
     base: usize,
     count: usize,
     strings: &[u8],
-) -> usize
-    requires { ⌜ Table order (now assembled) base count (now strings) × (symbolNamed order (now assembled) (lateLabel (text "_start")) < symbolCount order (now assembled)) ⌝ }
-    ensures { λ r. ⌜ r ≡ lateStart order (now (assembled .entry)) ⌝ }
+    file: &[u8],
+    table: &[u8],
+    places: &[u8],
+    blocks: usize,
+    late: &[u8],
+    first: usize,
+    second: usize,
+    third: usize,
+    rows: &mut [u8],
+)
+    requires { ⌜ Stage order (now compiled) (now assembled) (now file) (now table) (now places) blocks × Table order (now assembled) base count (now strings)
+        × Movable order (now compiled) (now assembled) (now file) (now late) × Ends order (now compiled) first second third
+        × (third + heldBytes order (now compiled) 6 ≤ length (now out)) × (8192 ≤ length (now rows)) ⌝ }
+    ensures { λ _. ⌜ now (out .exit) ≡ spliced (now (out .entry)) 0 (spliceBytes order (now (compiled .entry)) (now (assembled .entry)) (now (file .entry))) ⌝ }
 {
-    let k = labels::joined_symbol(
+    splice_sections::write_section(
+        out,
+        0,
         order,
+        compiled,
+        assembled,
+        file,
+        table,
+        places,
+        blocks,
+        scope::TEXT,
+        rows,
+    );
+    splice_sections::write_section(
+        out,
+        first,
+        order,
+        compiled,
+        assembled,
+        file,
+        table,
+        places,
+        blocks,
+        scope::DATA,
+        rows,
+    );
+    splice_sections::write_rodata(
+        out,
+        second,
+        order,
+        compiled,
         assembled,
         base,
         count,
         strings,
-        b"_asmpp_late_rodata",
-        b"_start",
+        file,
+        table,
+        places,
+        blocks,
+        late,
+        rows,
     );
-    if k < count {
-        let s = symbols::symbol_at(order, assembled, base, k);
-        return s.st_value as usize;
-    }
-    0
+    splice_sections::write_registers(
+        out,
+        third,
+        order,
+        compiled,
+        assembled,
+        file,
+        table,
+        places,
+        blocks,
+    );
 }
 
-// Refusal 14, where the late step runs. It searches C's own .rodata: block copying changes nothing from the last place on.
-fn late_fault(
-    order: ByteOrder,
-    compiled: &[u8],
-    assembled: &[u8],
-    base: usize,
-    count: usize,
-    strings: &[u8],
-    file: &[u8],
-    table: &[u8],
-    places: &[u8],
-    blocks: usize,
-    late: &mut [u8],
-) -> Finding
-    requires { ⌜ Stage order (now compiled) (now assembled) (now file) (now table) (now places) blocks × Table order (now assembled) base count (now strings) × (291920 ≤ length (now late)) ⌝ }
-    ensures { λ r. ⌜ r ≡ lateFinding order (now (compiled .entry)) (now (assembled .entry)) (now (file .entry)) ⌝ }
-{
-    if late_length::late_runs(order, compiled, file, table, places, blocks) {
-        let section = elf::coded_section(order, compiled, scope::RODATA);
-        let rodata = elf::contents_of(order, compiled, section);
-        let start = late_start(order, assembled, base, count, strings);
-        let last = spans::last_end(order, compiled, file, table, places, blocks, scope::RODATA);
-        return late::place_late(
-            order,
-            compiled,
-            file,
-            table,
-            places,
-            blocks,
-            rodata,
-            start,
-            last,
-            late,
-        );
-    }
-    Finding::Clear
-}
-
-// Writes C's section of a code after block copying at `at`.
-fn write_section(
-    out: &mut [u8],
-    at: usize,
-    order: ByteOrder,
-    compiled: &[u8],
-    assembled: &[u8],
-    file: &[u8],
-    table: &[u8],
-    places: &[u8],
-    blocks: usize,
-    code: u32,
-    rows: &mut [u8],
-)
-    requires { ⌜ Stage order (now compiled) (now assembled) (now file) (now table) (now places) blocks × (1 ≤ code) × (code ≤ 3)
-        × (at + heldBytes order (now compiled) code ≤ length (now out)) × (8192 ≤ length (now rows)) ⌝ }
-    ensures { λ _. ⌜ now (out .exit) ≡ spliced (now (out .entry)) at (sectionBytes order (now (compiled .entry)) (now (assembled .entry)) (now (file .entry)) code) ⌝ }
-{
-    let target = elf::coded_section(order, compiled, code);
-    if target < elf::section_count(order, compiled) {
-        let source = elf::coded_section(order, assembled, code);
-        let n = spans::gather_spans(order, compiled, file, table, places, blocks, code, rows);
-        copies::write_copied(
-            out,
-            at,
-            order,
-            compiled,
-            assembled,
-            file,
-            code,
-            rows,
-            n,
-            target,
-            source,
-        );
-        return;
-    }
-}
-
-// Writes C's .reginfo, with A's ORed into it, at `at`.
-fn write_registers(
-    out: &mut [u8],
-    at: usize,
-    order: ByteOrder,
-    compiled: &[u8],
-    assembled: &[u8],
-    file: &[u8],
-    table: &[u8],
-    places: &[u8],
-    blocks: usize,
-)
-    requires { ⌜ Stage order (now compiled) (now assembled) (now file) (now table) (now places) blocks × (at + heldBytes order (now compiled) 6 ≤ length (now out)) ⌝ }
-    ensures { λ _. ⌜ now (out .exit) ≡ spliced (now (out .entry)) at (registerBytes order (now (compiled .entry)) (now (assembled .entry)) (now (file .entry))) ⌝ }
-{
-    let target = elf::coded_section(order, compiled, scope::REGINFO);
-    if target < elf::section_count(order, compiled) {
-        let source = elf::coded_section(order, assembled, scope::REGINFO);
-        let own = elf::contents_of(order, compiled, target);
-        let other = elf::contents_of(order, assembled, source);
-        reginfo::write_reginfo(out, at, own, other);
-        return;
-    }
-}
-
-// The four sections, one behind the other, where there is room for them: refusal 21.
+// The four sections, where there is room for them: refusal 21.
 fn splice_room(
     out: &mut [u8],
     order: ByteOrder,
     compiled: &[u8],
     assembled: &[u8],
+    base: usize,
+    count: usize,
+    strings: &[u8],
     file: &[u8],
     table: &[u8],
     places: &[u8],
     blocks: usize,
+    late: &[u8],
     rows: &mut [u8],
 ) -> Outcome
-    requires { ⌜ Stage order (now compiled) (now assembled) (now file) (now table) (now places) blocks × (8192 ≤ length (now rows)) ⌝ }
+    requires { ⌜ Stage order (now compiled) (now assembled) (now file) (now table) (now places) blocks × Table order (now assembled) base count (now strings)
+        × Movable order (now compiled) (now assembled) (now file) (now late) × (8192 ≤ length (now rows)) ⌝ }
     ensures { λ r. ⌜ Answered (roomFor (spliceBytes order (now (compiled .entry)) (now (assembled .entry)) (now (file .entry))) (length (now (out .entry)))) r (now (out .entry)) (now (out .exit)) ⌝ }
 {
     let first = missing::held_bytes(order, compiled, scope::TEXT);
@@ -173,55 +126,23 @@ fn splice_room(
     let third = second + missing::held_bytes(order, compiled, scope::RODATA);
     let end = third + missing::held_bytes(order, compiled, scope::REGINFO);
     if end <= out.len() {
-        write_section(
+        write_sections(
             out,
-            0,
             order,
             compiled,
             assembled,
+            base,
+            count,
+            strings,
             file,
             table,
             places,
             blocks,
-            scope::TEXT,
-            rows,
-        );
-        write_section(
-            out,
+            late,
             first,
-            order,
-            compiled,
-            assembled,
-            file,
-            table,
-            places,
-            blocks,
-            scope::DATA,
-            rows,
-        );
-        write_section(
-            out,
             second,
-            order,
-            compiled,
-            assembled,
-            file,
-            table,
-            places,
-            blocks,
-            scope::RODATA,
-            rows,
-        );
-        write_registers(
-            out,
             third,
-            order,
-            compiled,
-            assembled,
-            file,
-            table,
-            places,
-            blocks,
+            rows,
         );
         return answers::result(end as u64);
     }
@@ -248,7 +169,7 @@ fn splice_moved(
         × (291920 ≤ length (now late)) × (8192 ≤ length (now rows)) ⌝ }
     ensures { λ r. ⌜ Answered (movedAnswer order (now (compiled .entry)) (now (assembled .entry)) (now (file .entry)) (length (now (out .entry)))) r (now (out .entry)) (now (out .exit)) ⌝ }
 {
-    match late_fault(
+    match splice_sections::late_fault(
         order,
         compiled,
         assembled,
@@ -266,10 +187,14 @@ fn splice_moved(
             order,
             compiled,
             assembled,
+            base,
+            count,
+            strings,
             file,
             table,
             places,
             blocks,
+            late,
             rows,
         ),
         Finding::At(block) => answers::refusal(scope::LATE_WORDS, answers::COMPILED, block as u64),

@@ -1,5 +1,5 @@
-// Replays a list of jobs through the stages of the merge up to the late step, and prints the answer of each: `job K accepted LENGTH`, the bytes of .text,
-// .data and .rodata after block copying and of .reginfo, and LF; or `job K refused NUMBER OBJECT PLACE`. A job is three lengths, four bytes each, the most
+// Replays a list of jobs through the stages of the merge up to the late step, and prints the answer of each: `job K accepted LENGTH`, the bytes written over C's
+// .text, .data, .rodata and .reginfo, and LF; or `job K refused NUMBER OBJECT PLACE`. A job is three lengths, four bytes each, the most
 // significant first (compiled object, assembled object, block file), and then their bytes. The list is the file that the first argument names.
 use libc::STDOUT_FILENO;
 

@@ -17,8 +17,8 @@ write-bytes-of-requires c κs =
     let a = c .before .before .before .before .before .before .before .before .args in
     let p = c .before .before .before .before .before .before .before .before .pre in
     let r = c .before .run-at in (
-      run-fits (a .order) (now (a .compiled)) (now (a .file)) (a .code) (a .n) (now (a .table)) (now (a .target)) (now (a .source)) (p .0) (a .k) (p .1) (r .result) (r .ensures),
-      omega (arith, p .2, run-room (a .order) (now (a .compiled)) (now (a .file)) (a .code) (a .n) (now (a .table)) (now (a .target)) (now (a .source)) (p .0) (a .k) (p .1) (r .result) (r .ensures)),
+      run-fits (a .order) (now (a .compiled)) (now (a .file)) (a .code) (a .n) (a .size) (now (a .table)) (now (a .target)) (now (a .source)) (p .0) (a .k) (p .1) (r .result) (r .ensures),
+      omega (arith, p .2, run-room (a .order) (now (a .compiled)) (now (a .file)) (a .code) (a .n) (a .size) (now (a .table)) (now (a .target)) (now (a .source)) (p .0) (a .k) (p .1) (r .result) (r .ensures)),
     )
 
 add-result : tie.Need-add-result
@@ -26,7 +26,7 @@ add-result c =
     let a = c .before .before .before .before .before .before .before .before .before .before .before .args in
     let p = c .before .before .before .before .before .before .before .before .before .before .before .pre in
     let r = c .before .before .before .before .run-at in
-    omega (arith, p .2, run-room (a .order) (now (a .compiled)) (now (a .file)) (a .code) (a .n) (now (a .table)) (now (a .target)) (now (a .source)) (p .0) (a .k) (p .1) (r .result) (r .ensures), c .before .before .write-bytes-of .ensures .0)
+    omega (arith, p .2, run-room (a .order) (now (a .compiled)) (now (a .file)) (a .code) (a .n) (a .size) (now (a .table)) (now (a .target)) (now (a .source)) (p .0) (a .k) (p .1) (r .result) (r .ensures), c .before .before .write-bytes-of .ensures .0)
 
 same-length : tie.Need-same-length
 same-length c = search needs
@@ -36,7 +36,7 @@ returns c =
     let a = c .before .before .before .before .before .before .before .before .before .before .before .args in
     let p = c .before .before .before .before .before .before .before .before .before .before .before .pre in
     let r = c .before .before .before .before .run-at in
-    run-wrote (a .order) (now (a .compiled)) (now (a .file)) (a .code) (a .n) (now (a .table)) (now (a .target)) (now (a .source)) (p .0) (a .k) (p .1) (r .result) (r .ensures) (a .at) _ _ _ (c .before .before .write-bytes-of .ensures)
+    run-wrote (a .order) (now (a .compiled)) (now (a .file)) (a .code) (a .n) (a .size) (now (a .table)) (now (a .target)) (now (a .source)) (p .0) (a .k) (p .1) (r .result) (r .ensures) (a .at) _ _ _ (c .before .before .write-bytes-of .ensures)
 
 pub write-run-spec : {M : Type 1} → statement M
 write-run-spec =

@@ -17,7 +17,9 @@ enum-told : tie.Need-enum-told
 enum-told c = search needs
 
 splice-room-requires : tie.Need-splice-room-requires
-splice-room-requires c κs = search needs
+splice-room-requires c κs =
+    let p = c .before .before .before .before .before .before .before .before .before .before .before .before .before .before .before .before .before .before .pre in
+    (p .0, p .1, c .before .before .before .before .before .before .before .late-fault .ensures .moves (c .before .before .before .enum-told .given .1), p .3)
 
 enum-known-block : tie.Need-enum-known-block
 enum-known-block c = search needs
@@ -36,14 +38,14 @@ same-length-3 c = search needs
 
 returns : tie.Need-returns
 unfolding movedAnswer
-returns c = answered-as _ _ _ _ _ (moved-rest _ _ (sym (c .before .before .before .before .before .before .before .before .before .before .before .late-fault .ensures) ∙ c .before .before .before .before .before .before .before .enum-told .given .1)) (c .before .before .before .before .splice-room .ensures)
+returns c = answered-as _ _ _ _ _ (moved-rest _ _ (sym (c .before .before .before .before .before .before .before .before .before .before .before .before .late-fault .ensures .answer) ∙ c .before .before .before .before .before .before .before .before .enum-told .given .1)) (c .before .before .before .before .splice-room .ensures)
 
 same-length-4 : tie.Need-same-length-4
 same-length-4 c = search needs
 
 returns-2 : tie.Need-returns-2
 unfolding movedAnswer
-returns-2 c = answered-as _ _ _ _ _ (moved-14 _ _ _ (sym (c .before .before .before .before .before .before .late-fault .ensures) ∙ c .before .before .block .given .1)) (answered-refused _ _ _ _ _ _ (c .refusal .ensures) refl)
+returns-2 c = answered-as _ _ _ _ _ (moved-14 _ _ _ (sym (c .before .before .before .before .before .before .late-fault .ensures .answer) ∙ c .before .before .block .given .1)) (answered-refused _ _ _ _ _ _ (c .refusal .ensures) refl)
 
 pub splice-moved-spec : {M : Type 1} → statement M
 splice-moved-spec =

@@ -1,12 +1,12 @@
 -- A section that C has is written from its rows; one that C lacks has no bytes. Assumes nothing.
-use Rattle.splice.proofs.Steps.{copying, below-as, held-fits, section-there, section-none}
+use Rattle.splice_sections.proofs.Sections.{copying, below-as, held-fits, section-there, section-none}
 use mathlib.Core.Path.{_≡_, refl, sym, ap, _∙_}
 use Prim.Native.Nat.{ℕ, _+_}
 use native.Mathlib.Omega.{arith}
 use denote.Ref.{now}
 use borrow.Author.Needs.{needs}
-use Rattle.splice.proofs.write_section.Statement.{statement}
-use Rattle.splice.proofs.write_section.Tie as tie
+use Rattle.splice_sections.proofs.write_section.Statement.{statement}
+use Rattle.splice_sections.proofs.write_section.Tie as tie
 
 coded-section-requires : tie.Need-coded-section-requires
 coded-section-requires c κs = search needs

@@ -1,9 +1,9 @@
 -- C's .reginfo is written with A's, which 11 says is there; where C has none there are no bytes. Assumes nothing.
-use Rattle.splice.proofs.Steps.{below-as, other-there, own-fits, registers-there, registers-none}
+use Rattle.splice_sections.proofs.Sections.{below-as, other-there, own-fits, registers-there, registers-none}
 use denote.Ref.{now}
 use borrow.Author.Needs.{needs}
-use Rattle.splice.proofs.write_registers.Statement.{statement}
-use Rattle.splice.proofs.write_registers.Tie as tie
+use Rattle.splice_sections.proofs.write_registers.Statement.{statement}
+use Rattle.splice_sections.proofs.write_registers.Tie as tie
 
 coded-section-requires : tie.Need-coded-section-requires
 coded-section-requires c κs = search needs

@@ -8,8 +8,8 @@ use Prim.Native.Nat.{ℕ, _+_}
 use native.Mathlib.Omega.{arith}
 use denote.Ref.{now}
 use borrow.Author.Needs.{needs}
-use Rattle.splice.proofs.late_start.Statement.{statement}
-use Rattle.splice.proofs.late_start.Tie as tie
+use Rattle.splice_sections.proofs.late_start.Statement.{statement}
+use Rattle.splice_sections.proofs.late_start.Tie as tie
 
 slice-aggregate-joined-symbol : tie.Need-slice-aggregate-joined-symbol
 slice-aggregate-joined-symbol c = search needs
