@@ -1,7 +1,9 @@
 #!/usr/bin/env python3
 """Makes the jobs that the program splice_jobs runs, and what it must print.
 
-  tools/splice_jobs.py            writes crates/splice_jobs/{data/jobs,args,stdout}
+  tools/splice_jobs.py               writes crates/splice_jobs/{data/jobs,args,stdout}
+  tools/splice_jobs.py SEED COUNT    runs COUNT other jobs, made and damaged, through target/bin/splice_jobs, and compares each answer with the model's and,
+                                     where the Rust (oracle/target/release/oracle) merges the job, with the sections of its object
 
 A job is a compiled object, an assembled one and a block file. What is expected comes from the model of document 01 (MODEL, by default ../shared/model): the
 refusals of both objects, of the block file and of places, then 11 to 14; or the bytes that the merge writes over C's .text, .data, .rodata and .reginfo, one behind
@@ -20,6 +22,7 @@ sys.path.insert(0, os.environ.get('MODEL', os.path.join(TOP, '..', 'shared', 'mo
 import check_objects, draft_jobs, model, real_jobs  # noqa: E402
 
 KINDS = {b'.bss': 8, b'.reginfo': 0x70000006}
+WRITTEN = model.TEXT, model.DATA, model.RODATA, model.REGINFO
 LATE_LABELS = b'_asmpp_late_rodata_start', b'_asmpp_late_rodata_end'
 
 
@@ -125,11 +128,11 @@ VARIATIONS = [
 ]
 
 
-def made_jobs(seed):
+def made_jobs(seed, count):
     chance = random.Random(seed)
-    for n, change in enumerate(VARIATIONS * 6):
+    for n in range(count):
         splice = Splice(chance, blocks=1 + n % 3, late=n % 5 != 4)
-        change(splice, chance)
+        VARIATIONS[n % len(VARIATIONS)](splice, chance)
         yield splice.job()
 
 
@@ -147,7 +150,8 @@ def damaged_jobs(count, seed):
 # ---------------------------------------------------------------- real jobs
 
 def late_blocks(blocks):
-    """the block file with two late words behind the dummies that the source `constants` has"""
+    """the block file with two late words and a table for the dummies that the source `constants` has, without its .rodata block behind them"""
+    blocks = blocks[:blocks.index(b'desc=half\n')] if b'desc=half\n' in blocks else blocks
     return blocks.replace(b'jtbl=0\n', b'dummy=e0123456\ndummy=e0123457\njtbl=4\n', 1).replace(b'end=\n', b'late=.word 1, 2\nlate=.word 3\nend=\n', 1)
 
 
@@ -204,18 +208,73 @@ def expected(compiled, assembled, file):
         held[model.RODATA] = moves.rodata
     if held[model.REGINFO]:
         held[model.REGINFO] = model.or_reginfo(held[model.REGINFO], a.sections[model.find(a, model.REGINFO)].data)
-    return 'ok', b''.join(held[code] for code in (model.TEXT, model.DATA, model.RODATA, model.REGINFO))
+    return 'ok', b''.join(held[code] for code in WRITTEN)
+
+
+def packed(job):
+    return struct.pack('>III', *map(len, job)) + b''.join(job)
+
+
+def written(k, got):
+    """what the program prints for job k"""
+    return b'job %d ' % k + (b'accepted %d\n' % len(got[1]) + got[1] + b'\n' if got[0] == 'ok' else b'refused %d %d %d\n' % got[1:])
+
+
+# ---------------------------------------------------------------- beside the Rust
+
+class Rust:
+    """the oracle, asked for one merge after another; the path, the flag and the mode play no part in these sections"""
+
+    def __init__(self):
+        self.process = subprocess.Popen([real_jobs.ORACLE, 'serve'], stdin=subprocess.PIPE, stdout=subprocess.PIPE)
+
+    def sections(self, compiled, assembled, file):
+        """the bytes of the four sections of the merged object; nothing where the Rust has none"""
+        fields = (compiled, assembled, b'', file, b'c.o')
+        self.process.stdin.write(b'\x01' + b''.join(struct.pack('>I', len(x)) + x for x in fields) + bytes(2))
+        self.process.stdin.flush()
+        kind, length = struct.unpack('>BI', self.process.stdout.read(5))
+        answer = self.process.stdout.read(length)
+        if kind != 0:
+            return None
+        merged = model.read_object(answer)
+        return b''.join(merged.sections[at].data for at in (model.find(merged, code) for code in WRITTEN) if at is not None)
+
+
+def compare(seed, count):
+    jobs = [*made_jobs(seed, count // 2), *damaged_jobs(count - count // 2, seed + 1)]
+    with tempfile.NamedTemporaryFile() as f:
+        f.write(b''.join(map(packed, jobs)))
+        f.flush()
+        out = subprocess.run([os.path.join(TOP, 'target', 'bin', 'splice_jobs'), f.name], stdout=subprocess.PIPE, check=True).stdout
+    rust, at, accepted, merged, wrong = Rust(), 0, 0, 0, 0
+    for k, job in enumerate(jobs):
+        got = expected(*job)
+        line = written(k, got)
+        if out[at:at + len(line)] != line:
+            sys.exit(f'job {k} of seed {seed}: the model has {line[:200]!r}, the program {out[at:at + 200]!r}')
+        at += len(line)
+        if got[0] == 'ok':
+            accepted += 1
+            theirs = rust.sections(*job)
+            merged += theirs is not None
+            if theirs not in (None, got[1]):
+                wrong += 1
+                print(f'job {k} of seed {seed}: the Rust has {theirs!r}, the program {got[1]!r}')
+    print(f'{len(jobs)} jobs: {len(jobs) - accepted} refusals and {accepted} results as the model has them; {merged} results merged by the Rust, {wrong} of them otherwise')
+    return wrong != 0
 
 
 def main():
-    jobs = [*made_jobs(1), *damaged_jobs(60, 2), *real_splices()]
+    if len(sys.argv) == 3:
+        sys.exit(compare(int(sys.argv[1]), int(sys.argv[2])))
+    jobs = [*made_jobs(1, 6 * len(VARIATIONS)), *damaged_jobs(60, 2), *real_splices()]
     data, out, numbers = b'', b'', {}
     for k, job in enumerate(jobs):
-        data += struct.pack('>III', *map(len, job)) + b''.join(job)
         got = expected(*job)
+        data, out = data + packed(job), out + written(k, got)
         number = 0 if got[0] == 'ok' else got[1]
         numbers[number] = numbers.get(number, 0) + 1
-        out += b'job %d ' % k + (b'accepted %d\n' % len(got[1]) + got[1] + b'\n' if number == 0 else b'refused %d %d %d\n' % got[1:])
     out += b'job %d is not there\n' % len(jobs)
     folder = os.path.join(TOP, 'crates', 'splice_jobs')
     os.makedirs(os.path.join(folder, 'data'), exist_ok=True)
