@@ -12,8 +12,8 @@ ghost use Rattle.labels.specs.Labels.{isAt, isLined, isMislabelled, labe
 use fields::ByteOrder;
 use scope::Finding;
 
-// Whether the name at `at` is a label followed by a suffix. It reads no further than the first byte that differs.
-pub fn is_joined_name(t: &[u8], at: usize, label: &[u8], suffix: &[u8]) -> bool
+// Whether the name at `at` is a label followed by a suffix, byte by byte. It reads no further than the first byte that differs.
+fn joined_from(t: &[u8], at: usize, label: &[u8], suffix: &[u8]) -> bool
     ensures { λ r. ⌜ r ≡ same (nameAt (now (t .entry)) at) (now (label .entry) ++ now (suffix .entry)) ⌝ }
 {
     let mut i: usize = 0;
@@ -32,6 +32,16 @@ pub fn is_joined_name(t: &[u8], at: usize, label: &[u8], suffix: &[u8]) -> bool
         j += 1;
     }
     names::name_is(t, j, suffix)
+}
+
+// Whether the name at `at` is a label followed by a suffix.
+fn is_joined_name(t: &[u8], at: usize, label: &[u8], suffix: &[u8]) -> bool
+    ensures { λ r. ⌜ r ≡ same (nameAt (now (t .entry)) at) (now (label .entry) ++ now (suffix .entry)) ⌝ }
+{
+    if names::ends_apart(t, at, label) {
+        return false;
+    }
+    joined_from(t, at, label, suffix)
 }
 
 // Whether symbol k has the name of a label and a suffix.

@@ -2,10 +2,10 @@
 // definition in the crate lists, specs/Strings.antt: comparisons are equations of lists, so a zero byte in a compared string is a byte
 // like any other.
 ghost use mathlib.Core.Path.{_≡_};
-ghost use mathlib.Core.List.{_++_};
 ghost use lib.ListN.{length};
 ghost use Rattle.lists.specs.Ranges.{pastLast};
 ghost use Rattle.lists.specs.Strings.{same, prefixed, zeroAt, nameEnd, nameAt, ascii};
+ghost use Rattle.names.specs.Ends.{endsApart};
 ghost use Rattle.names.specs.Tables.{tableOf};
 
 // The object that a name comes from.
@@ -92,21 +92,6 @@ pub fn has_prefix(s: &[u8], p: &[u8]) -> bool
     same_bytes(&s[0..n], p)
 }
 
-// Whether a byte string is the first of two followed by the second.
-pub fn is_joined(s: &[u8], a: &[u8], b: &[u8]) -> bool
-    ensures { λ r. ⌜ r ≡ same (now (s .entry)) (now (a .entry) ++ now (b .entry)) ⌝ }
-{
-    let n = a.len();
-    if s.len() < n {
-        return false;
-    }
-    if same_bytes(&s[0..n], a) {
-        same_bytes(&s[n..], b)
-    } else {
-        false
-    }
-}
-
 // Whether the name at `at` is a given byte string, byte by byte. It reads no further than the first byte that differs, so a long name costs
 // nothing where a short one is asked for.
 fn name_from(t: &[u8], at: usize, s: &[u8]) -> bool
@@ -133,19 +118,30 @@ fn name_from(t: &[u8], at: usize, s: &[u8]) -> bool
     t[j] == 0
 }
 
-// Whether the name at `at` is a given byte string. The last byte is compared first: the labels of an object begin alike and end apart.
+// Whether a table has another byte where the last one of a string would stand, were the string at `at`. The labels of an object begin alike and end apart, so this
+// is asked before they are compared.
+pub fn ends_apart(t: &[u8], at: usize, s: &[u8]) -> bool
+    ensures { λ r. ⌜ r ≡ endsApart (now (t .entry)) at (now (s .entry)) ⌝ }
+{
+    let n = s.len();
+    if n == 0 {
+        return false;
+    }
+    if at >= t.len() {
+        return false;
+    }
+    if t.len() - at < n {
+        return false;
+    }
+    t[at + (n - 1)] != s[n - 1]
+}
+
+// Whether the name at `at` is a given byte string.
 pub fn name_is(t: &[u8], at: usize, s: &[u8]) -> bool
     ensures { λ r. ⌜ r ≡ same (nameAt (now (t .entry)) at) (now (s .entry)) ⌝ }
 {
-    let n = s.len();
-    if at < t.len() {
-        if n <= t.len() - at {
-            if n > 0 {
-                if t[at + (n - 1)] != s[n - 1] {
-                    return false;
-                }
-            }
-        }
+    if ends_apart(t, at, s) {
+        return false;
     }
     name_from(t, at, s)
 }
