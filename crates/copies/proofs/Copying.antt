@@ -9,6 +9,7 @@ use lib.ListN.{length}
 use lib.Seq.{ext-getD}
 use Rattle.lists.specs.Windows.{spliced}
 use Rattle.lists.proofs.Ranges.{by-test, count-lt, count-hit}
+use Rattle.lists.proofs.Pieces.{Begun, begun-next, begun-end}
 use Rattle.fields.specs.declared.ByteOrder.{ByteOrder}
 use Rattle.elf.specs.Readers.{sectionCount, contents, codedSection}
 use Rattle.places.specs.declared.Placing.the-variants.{Placed}
@@ -19,7 +20,6 @@ use Rattle.spans.proofs.Spans.{span-some, length-copied, covers-other, covered-
 use Rattle.runs.specs.declared.Run.{Run}
 use Rattle.runs.specs.Runs.{runFrom, runLength, runSource, runBytes, runAt, EndsBy}
 use Rattle.copies.specs.Copying.{Inside, Copying, Writing, Wrote}
-use Rattle.runs.proofs.Pieces.{Begun, begun-next, begun-end}
 use Rattle.runs.proofs.Runs.{IsRun, is-run, source-fits, run-part}
 
 -- ---- what refusal 11 leaves

@@ -8,16 +8,16 @@ use native.Mathlib.Numerals.{add-one}
 use native.Mathlib.Omega.{arith}
 use lib.ListN.{length, drop, getD}
 use Rattle.lists.proofs.Ranges.{by-lt}
+use Rattle.lists.specs.Rows.{rowIn, columnIn}
+use Rattle.lists.proofs.Rows.{row-same, column-same, has-row-same}
 use Rattle.fields.specs.declared.ByteOrder.{ByteOrder}
 use Rattle.blocks.specs.Blocks.{blockCount}
 use Rattle.places.specs.Spans.{endAt}
 use Rattle.block_values.specs.BlockValues.{dummyCount, dummyWord}
 use Rattle.dummies.specs.Dummies.{found, shifts, placed, isLost}
 use Rattle.dummies.proofs.Dummies.{word-agree, found-agree, found-low}
-use Rattle.moves.specs.Rows.{rowIn, columnIn}
 use Rattle.moves.specs.Moves.{isDummy, firstOfMany, itemLength, itemPlace, itemFault, items, lateFrom, lastPlace, place, isFaulty, lateFault, isShifted}
 use Rattle.moves.specs.Moved.{tableWord, isJumpWord, covers, zeroes, movedBlock, movedItem, placeOf, movedPlace, offsetOf, coveredBy, lateByte}
-use Rattle.moves.proofs.Rows.{row-same, column-same, has-row-same}
 use Rattle.moves.proofs.Moves.{place-dummy, place-table, fault-dummy, fault-table, late-zero, late-next, last-zero, last-next, last-past}
 
 module _ (o : ByteOrder) (R S : List ℕ) (a : ℕ) (long : length R ≡ length S) (agree : drop a R ≡ drop a S) (many : Bool) (last w : ℕ) (h : a ≤ last) where

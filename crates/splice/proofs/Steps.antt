@@ -12,6 +12,7 @@ use Rattle.lists.specs.Ranges.{first, pickList}
 use Rattle.lists.specs.Windows.{spliced}
 use Rattle.lists.proofs.Ranges.{by-test, by-lt, and-parts}
 use Rattle.lists.proofs.Windows.{length-spliced, spliced-nil, spliced-then}
+use Rattle.lists.specs.Written.{Written}
 use Rattle.fields.specs.declared.ByteOrder.{ByteOrder}
 use Rattle.scope.specs.declared.Finding.{Finding}
 use Rattle.scope.specs.declared.Finding.the-variants.{Clear, At}
@@ -50,7 +51,6 @@ use Rattle.answers.specs.declared.Outcome.{Outcome}
 use Rattle.answers.specs.Answers.{Answer, refused, outcomeOf}
 use Rattle.answers.proofs.Answers.{outcome-length, output-zeroed}
 use Rattle.buffers.specs.Buffers.{zeros, zeroedFrom}
-use Rattle.draft_lines.specs.Written.{Written}
 use Rattle.splicer.specs.Answered.{Answered}
 use Rattle.splicer.specs.Verdict.{pickAnswer}
 use Rattle.inputs.specs.Read.{Given}
