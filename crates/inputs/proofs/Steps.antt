@@ -1,14 +1,14 @@
 -- One step of the inputs after another: a test that passes leaves the rest to decide, and a fault is its refusal; what an accepted object gives; and what holds
 -- of inputs that are taken. Assumes nothing.
 use mathlib.Core.Path.{_≡_, refl, sym, ap, _∙_}
-use mathlib.Core.Bool.{Bool, true, false, _||_}
+use mathlib.Core.Bool.{Bool, true, false}
 use mathlib.Core.List.{List}
-use Prim.Native.Nat.{ℕ, _≤_, _<_}
+use Prim.Native.Nat.{ℕ, _<_}
 use native.Mathlib.Omega.{arith}
 use lib.ListN.{length, getD, take, drop}
 use lib.Seq.{getD-take}
-use lib.Dec.{eqb, ltb}
-use borrow.Author.Tests.{lt-ltb, le-ltb, ltb-false, eqb-true}
+use lib.Dec.{eqb}
+use borrow.Author.Tests.{eqb-true}
 use Rattle.fields.specs.declared.ByteOrder.{ByteOrder}
 use Rattle.fields.specs.declared.ByteOrder.the-variants.{Big}
 use Rattle.records.specs.declared.header.ElfHeader.{ElfHeader}
@@ -16,6 +16,8 @@ use Rattle.records.proofs.Offsets.{elf-ident}
 use Rattle.scope.specs.declared.Finding.{Finding}
 use Rattle.scope.specs.declared.Finding.the-variants.{Clear, At}
 use Rattle.scope.specs.Refusals.{expect}
+use Rattle.scope.specs.Limits.{overLimits}
+use Rattle.scope.proofs.Limits.{in-limits}
 use Rattle.elf.specs.Readers.{orderOf, header, sectionCount, contents}
 use Rattle.elf.specs.Bounds.{Headed}
 use Rattle.elf.proofs.Readers.{order-big}
@@ -36,8 +38,8 @@ use Rattle.spans.specs.Table.{Laid}
 use Rattle.answers.specs.Answers.{Answer, refused}
 use Rattle.inputs.specs.declared.Inputs.{Inputs}
 use Rattle.inputs.specs.declared.Inputs.the-variants.{Taken, Faulty}
-use Rattle.inputs.specs.Inputs.{pickInputs, overLimits, ifSound, ifRead, ifPlaced, assembledOf, placesOf, blocksOf, compiledOf, inputsOf, ifTaken}
-use Rattle.inputs.specs.Read.{InLimits, Opened, Read, Given}
+use Rattle.inputs.specs.Inputs.{pickInputs, ifSound, ifRead, ifPlaced, assembledOf, placesOf, blocksOf, compiledOf, inputsOf, ifTaken}
+use Rattle.inputs.specs.Read.{Opened, Read, Given}
 
 -- ---- an accepted object is big-endian
 
@@ -123,42 +125,6 @@ inputs-over rest t e = rw e
 pub inputs-rest : (rest : Inputs) (t : Bool) → t ≡ false → rest ≡ pickInputs t (Faulty 1 0 0) rest
 inputs-rest rest t e = rw e
 
--- ---- refusal 1, test by test
-
-module _ (c p b t s : ℕ) where
-  pub over-1 : 1048576 < c → true ≡ overLimits c p b t s
-  unfolding overLimits
-  over-1 h = rw (lt-ltb _ _ h)
-
-  pub over-2 : c ≤ 1048576 → 1048576 < p → true ≡ overLimits c p b t s
-  unfolding overLimits
-  over-2 h i = rw (le-ltb _ _ h, lt-ltb _ _ i)
-
-  pub over-3 : c ≤ 1048576 → p ≤ 1048576 → 1048576 < b → true ≡ overLimits c p b t s
-  unfolding overLimits
-  over-3 h i j = rw (le-ltb _ _ h, le-ltb _ _ i, lt-ltb _ _ j)
-
-  pub over-4 : c ≤ 1048576 → p ≤ 1048576 → b ≤ 1048576 → t < 49152 → true ≡ overLimits c p b t s
-  unfolding overLimits
-  over-4 h i j k = rw (le-ltb _ _ h, le-ltb _ _ i, le-ltb _ _ j, lt-ltb _ _ k)
-
-  pub over-5 : c ≤ 1048576 → p ≤ 1048576 → b ≤ 1048576 → 49152 ≤ t → ltb s 32768 ≡ overLimits c p b t s
-  unfolding overLimits
-  over-5 h i j k = rw (le-ltb _ _ h, le-ltb _ _ i, le-ltb _ _ j, le-ltb _ _ k)
-
-  pub in-limits : overLimits c p b t s ≡ false → InLimits c p b t s
-  unfolding overLimits
-  in-limits e =
-      let a = or-parts (ltb 1048576 c) _ e in
-      let d = or-parts (ltb 1048576 p) _ (a .1) in
-      let f = or-parts (ltb 1048576 b) _ (d .1) in
-      let g = or-parts (ltb t 49152) _ (f .1) in
-      record { compiled-limit = ltb-false _ _ (a .0); assembled-limit = ltb-false _ _ (d .0); blocks-limit = ltb-false _ _ (f .0); table-size = ltb-false _ _ (g .0); places-size = ltb-false _ _ (g .1) }
-    where
-      or-parts : (a b : Bool) → (a || b) ≡ false → (a ≡ false) × (b ≡ false)
-      or-parts true b e = (e, cc)
-      or-parts false b e = (refl, e)
-
 -- ---- records of the steps
 
 -- a refusal leaves no tables to speak of
@@ -240,7 +206,7 @@ inputs-given C A B table places c a n e =
       assembledView = parts .1;
       many = parts .2;
       compiledSmall = l .compiled-limit;
-      assembledSmall = l .assembled-limit;
+      assembledSmall = l .beside-limit;
     }
   where
     taken-parts : (x y c a : View) (z n : ℕ) → Taken x y z ≡ Taken c a n → (c ≡ x) × (a ≡ y) × (n ≡ z)
