@@ -1,8 +1,7 @@
 -- One step of the verdict after another: a test that passes leaves the rest to decide, and a fault is its refusal. Assumes nothing.
-use mathlib.Core.Path.{_≡_, ap, _∙_}
+use mathlib.Core.Path.{_≡_}
 use mathlib.Core.Bool.{Bool, true, false}
-use mathlib.Core.List.{List}
-use Prim.Native.Nat.{ℕ, _<_}
+use Prim.Native.Nat.{ℕ}
 use Rattle.scope.specs.declared.Finding.{Finding}
 use Rattle.scope.specs.declared.Finding.the-variants.{Clear, At}
 use Rattle.object.specs.declared.View.{View}
@@ -10,13 +9,6 @@ use Rattle.object.specs.declared.Checked.{Checked}
 use Rattle.object.specs.declared.Checked.the-variants.{Accepted, Refused}
 use Rattle.places.specs.declared.Placing.{Placing}
 use Rattle.places.specs.declared.Placing.the-variants.{Placed, Misplaced, Misaligned}
-use Rattle.fields.specs.declared.ByteOrder.{ByteOrder}
-use Rattle.elf.specs.Readers.{orderOf, sectionCount, contents}
-use Rattle.elf.specs.Bounds.{Headed}
-use Rattle.symbols.specs.Symbols.{symbolStrings, Table}
-use Rattle.object.specs.Object.{viewOf, checkOf}
-use Rattle.object.specs.Sound.{Sound}
-use Rattle.object.proofs.Sound.{accepted}
 use Rattle.answers.specs.Answers.{Answer, refused}
 use Rattle.splicer.specs.Verdict.{pickAnswer, ifPlaced, ifClear, ifSound}
 
@@ -56,27 +48,3 @@ verdict-over rest t e = rw e
 
 pub verdict-rest : (rest : Answer) (t : Bool) → t ≡ false → rest ≡ pickAnswer t (refused 1 0 0) rest
 verdict-rest rest t e = rw e
-
--- an accepted object gives its headers, and its symbol table, in the byte order that it states
-module _ (C : List ℕ) (v : View) (o : ByteOrder) (e : checkOf C ≡ Accepted v) (q : o ≡ orderOf C) where
-  is-view : v ≡ viewOf o C
-  is-view = rw q (accepted C v e .0)
-
-  sound : Sound o C
-  sound = rw q (accepted C v e .1)
-
-  pub sound-headed : Headed o C
-  sound-headed = sound .named .headed
-
-  pub sound-strings : v .«symbol_strings» < sectionCount o C
-  unfolding viewOf
-  sound-strings = rw is-view (sound .tabled .strings)
-
-  pub sound-table : (s : List ℕ) → s ≡ contents o C (v .«symbol_strings») → Table o C (v .«symbols_at») (v .symbols) s
-  unfolding viewOf symbolStrings
-  sound-table s is = record {
-    tabled = sound .tabled;
-    at = ap (λ (x : View). x .«symbols_at») is-view;
-    many = ap (λ (x : View). x .symbols) is-view;
-    names = is ∙ ap (λ (x : View). contents o C (x .«symbol_strings»)) is-view;
-  }
