@@ -11,7 +11,7 @@ use lib.ListN.{length, take, drop, getD, length-append, drop-of-length-le}
 use lib.Dec.{eqb, leb}
 use borrow.Author.Tests.{eqb-true, leb-true}
 use Rattle.lists.proofs.Ranges.{and-parts, by-test}
-use Rattle.lists.proofs.Strings.{drop-step}
+use Rattle.lists.proofs.Windows.{drop-next}
 use Rattle.fields.specs.declared.ByteOrder.{ByteOrder}
 use Rattle.scope.specs.Limits.{FILE_LIMIT}
 use Rattle.lines.specs.Lines.{line}
@@ -54,7 +54,7 @@ hex-cons n x v = refl
 
 -- the turns of a loop along v
 pub hex-next : (n : ℕ) (v : List ℕ) (i : ℕ) → i < length v → hexFrom n (drop i v) ≡ hexFrom (n * 16 + hexDigit (getD v i 0)) (drop (i + 1) v)
-hex-next n v i h = rw (drop-step v i h, hex-cons)
+hex-next n v i h = rw (drop-next v i 0 h, hex-cons)
 
 pub hex-end : (n : ℕ) (v : List ℕ) (i : ℕ) → length v ≤ i → hexFrom n (drop i v) ≡ n
 unfolding hexFrom

@@ -2,7 +2,7 @@
 -- block file tell. A line of a key is whole, so what follows it starts further on and not past the end; the count is a first index. Assumes nothing.
 use Prim.Native.Nat.{ℕ, zero, suc, _+_, _-_, _≤_, _<_}
 use mathlib.Core.Path.{_≡_, refl, sym, ap, _∙_}
-use mathlib.Core.Bool.{Bool, true, false, not, _&&_, _||_}
+use mathlib.Core.Bool.{Bool, true, false, not, _&&_}
 use mathlib.Core.List.{List}
 use native.Mathlib.Numerals.{add-one}
 use native.Mathlib.Omega.{arith}
@@ -10,7 +10,7 @@ use lib.ListN.{length}
 use lib.Dec.{ltb, leb}
 use borrow.Author.Tests.{lt-ltb, le-leb, lt-leb, eq-eqb, ne-eqb, ltb-false, leb-true, leb-false, not-false}
 use Rattle.lists.specs.Ranges.{first}
-use Rattle.lists.proofs.Ranges.{by-test, by-lt, both, first-is, first-high, first-here, first-next}
+use Rattle.lists.proofs.Ranges.{by-test, by-lt, first-is, first-high, first-here, first-next, or-parts}
 use Rattle.scope.specs.declared.Finding.the-variants.{Clear, At}
 use Rattle.scope.specs.Refusals.{pickFinding}
 use Rattle.scope.specs.Limits.{BLOCK_LIMIT, FILE_LIMIT}
@@ -238,10 +238,6 @@ module _ (B : List ℕ) where
   pub stops-not : (i : ℕ) → blockAt B i < length B → faultyGroup B (blockAt B i) ≡ KEYS → stopsAt B i ≡ false
   unfolding stopsAt
   stops-not i h e = rw (lt-leb _ _ h, e)
-
-  or-parts : (a b : Bool) → (a || b) ≡ false → (a ≡ false) × (b ≡ false)
-  or-parts true b f = both refl f
-  or-parts false b f = (refl, f)
 
   -- ---- the blocks that are counted
 

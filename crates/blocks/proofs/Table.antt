@@ -9,7 +9,7 @@ use lib.ListN.{length, drop, getD, set, replicate}
 use Rattle.lists.specs.Ranges.{first, select}
 use Rattle.lists.specs.Windows.{Within, spliced}
 use Rattle.lists.specs.Records.{flat}
-use Rattle.lists.proofs.Ranges.{first-here, first-next, first-end, by-lt, count-all, gather-zero, gather-yes, gather-length, gather-split, select-zero, select-length, select-at, select-put}
+use Rattle.lists.proofs.Ranges.{first-here, first-next, first-end, by-lt, gather-zero, gather-yes, gather-split, select-zero, gather-all-length, select-all-at, select-all-length, select-all-put}
 use Rattle.lists.proofs.Windows.{within-at, within-second, within-head, within-within, within-fits, within-spliced, length-spliced, spliced-nil, spliced-then}
 use Rattle.lists.proofs.Records.{length-flat, within-flat}
 use Rattle.fields.specs.declared.ByteOrder.the-variants.{Big}
@@ -29,11 +29,11 @@ module _ (B : List ℕ) where
 
   pub length-groups : (a : ℕ) → length (groups B a) ≡ 12
   unfolding groups
-  length-groups a = select-length (λ k. true) (groupAt B a) 12 ∙ count-all 12
+  length-groups a = select-all-length (groupAt B a) 12
 
   pub groups-at : (a k : ℕ) → k < 12 → getD (groups B a) k 0 ≡ groupAt B a k
   unfolding groups
-  groups-at a k h = ap (λ (j : ℕ). getD (select (λ k. true) (groupAt B a) 12) j 0) (sym (count-all k)) ∙ select-at (λ k. true) (groupAt B a) k 12 0 h refl
+  groups-at a k h = select-all-at (groupAt B a) k 12 0 h
 
   -- the same of a list that is known to be those starts
   pub start-of : (a k : ℕ) (row : List ℕ) → row ≡ groups B a → k < 12 → getD row k 0 ≡ groupAt B a k
@@ -49,7 +49,7 @@ module _ (B : List ℕ) where
 
   pub started-put : (a k : ℕ) (row : List ℕ) (p : ℕ) → row ≡ started a k → p ≡ groupAt B a k → k < 12 → set row k p ≡ started a (k + 1)
   unfolding started
-  started-put a k row p e q h = rw q (select-put (λ j. true) (groupAt B a) (replicate 12 0) row k k e (sym (count-all k)) h refl)
+  started-put a k row p e q h = rw q (select-all-put (groupAt B a) (replicate 12 0) row k e h)
 
   pub started-all : (a : ℕ) → started a 12 ≡ groups B a
   unfolding started groups
@@ -62,7 +62,7 @@ module _ (B : List ℕ) where
 
   pub length-table : (n : ℕ) → length (blockTable B n) ≡ 48 * n
   unfolding blockTable
-  length-table n = gather-length (λ i. true) (blockRow B) 48 (λ i t. length-row i) n ∙ ap (λ (k : ℕ). 48 * k) (count-all n)
+  length-table n = gather-all-length (blockRow B) 48 length-row n
 
   pub table-zero : blockTable B 0 ≡ []
   unfolding blockTable

@@ -20,7 +20,7 @@ use Rattle.spans.proofs.Spans.{span-some, length-copied, covers-other, covered-
 use Rattle.runs.specs.declared.Run.{Run}
 use Rattle.runs.specs.Runs.{runFrom, runLength, runSource, runBytes, runAt, EndsBy}
 use Rattle.copies.specs.Copying.{Inside, Copying, Front, Writing, Wrote}
-use Rattle.runs.proofs.Pieces.{Begun, begun-next, begun-end}
+use Rattle.lists.proofs.Pieces.{Begun, begun-next, begun-end}
 use Rattle.runs.proofs.Runs.{IsRun, is-run, source-fits, run-part}
 
 -- ---- what refusal 11 leaves

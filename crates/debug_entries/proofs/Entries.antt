@@ -1,6 +1,6 @@
 -- Laws of the readers: which bytes the header's words are, and what a type or a storage class in no row of a list means. Assumes nothing.
 use mathlib.Core.Path.{_≡_, refl, sym}
-use mathlib.Core.Bool.{Bool, true, false, _||_}
+use mathlib.Core.Bool.{false}
 use mathlib.Core.List.{List, [], _∷_}
 use Prim.Native.Nat.{ℕ}
 use native.Mathlib.Omega.{arith}
@@ -38,8 +38,3 @@ opens-other k a b c d e f g =
 pub code-other : (s : ℕ) → (s ≡ 1 → ⊥) → (s ≡ 2 → ⊥) → (s ≡ 3 → ⊥) → (s ≡ 15 → ⊥) → 0 ≡ storageCode s
 unfolding storageCode
 code-other s a b c d = rw (ne-eqb _ _ a, ne-eqb _ _ b, ne-eqb _ _ c, ne-eqb _ _ d)
-
--- a list of one number
-pub or-false : (b : Bool) → b ≡ (b || false)
-or-false true = refl
-or-false false = refl

@@ -1,5 +1,5 @@
 -- Laws of the shift: which words move, the words so far in a row of zeros, and the test of the header. Assumes nothing.
-use mathlib.Core.Path.{_≡_, refl, sym, _∙_}
+use mathlib.Core.Path.{_≡_, sym, _∙_}
 use mathlib.Core.Bool.{Bool, true, false, not}
 use mathlib.Core.List.{List, _++_, append-nil}
 use Prim.Native.Nat.{ℕ, _+_, _-_, _≤_, _<_}
@@ -9,7 +9,7 @@ use borrow.Author.Tests.{le-leb, lt-leb, leb-true, eq-eqb, ne-eqb}
 use Rattle.lists.specs.Ranges.{select}
 use Rattle.lists.specs.Records.{flat}
 use Rattle.lists.specs.Windows.{spliced}
-use Rattle.lists.proofs.Ranges.{and-parts, count-all, select-length, select-zero, select-put}
+use Rattle.lists.proofs.Ranges.{and-parts, select-zero, select-all-length, select-all-put}
 use Rattle.fields.specs.declared.ByteOrder.{ByteOrder}
 use Rattle.fields.specs.Numbers.{number, encoded}
 use Rattle.records.specs.declared.debug.Hdrr.{Hdrr}
@@ -55,7 +55,7 @@ module _ (words : List ℕ) (old new : ℕ) where
 
   pub some-put : (i : ℕ) (row : List ℕ) (x : ℕ) → row ≡ movedSome words old new i → x ≡ movedWord words old new i → i < 23 → set row i x ≡ movedSome words old new (i + 1)
   unfolding movedSome
-  some-put i row x e q h = rw q (select-put (λ j. true) (movedWord words old new) (replicate 23 0) row i i e (sym (count-all i)) h refl)
+  some-put i row x e q h = rw q (select-all-put (movedWord words old new) (replicate 23 0) row i e h)
 
   pub some-all : (i : ℕ) → i ≡ 23 → movedSome words old new i ≡ movedWords words old new
   unfolding movedSome movedWords
@@ -63,7 +63,7 @@ module _ (words : List ℕ) (old new : ℕ) where
 
   pub length-moved : length (movedWords words old new) ≡ 23
   unfolding movedWords
-  length-moved = select-length (λ j. true) (movedWord words old new) 23 ∙ count-all 23
+  length-moved = select-all-length (movedWord words old new) 23
 
 -- the words written behind magic and vstamp
 pub debug-moved : (o : ByteOrder) (D : List ℕ) (old new : ℕ) (h : Hdrr) (w T : List ℕ) → h ≡ debugAt o D 0 → w ≡ movedWords (h .words) old new

@@ -6,13 +6,13 @@ use mathlib.Core.Bool.{true, false}
 use mathlib.Core.List.{List, _++_, append-assoc, append-nil}
 use native.Mathlib.Omega.{arith}
 use lib.ListN.{length}
+use Rattle.lists.specs.Written.{Written}
+use Rattle.lists.proofs.Written.{written-then, written-as}
 use Rattle.lines.specs.Lines.{lineEnd, next}
 use Rattle.lines.specs.Keys.{valueAt, isKeyLine}
 use Rattle.lines.proofs.Lines.{next-low, next-high}
 use Rattle.lines.proofs.Keys.{key-line-whole}
 use Rattle.draft_lines.specs.Lines.{lined, groupLines}
-use Rattle.draft_lines.specs.Written.{Written}
-use Rattle.draft_lines.proofs.Written.{written-then, written-as}
 use Rattle.draft_lines.proofs.Lines.{value-short, group-lines-here, group-lines-next}
 
 -- the line behind a line of the key starts behind it and inside the file, or at its end

@@ -11,7 +11,7 @@ use native.Mathlib.Omega.{arith}
 use lib.ListN.{length, take, drop, set, length-append, drop-of-length-le}
 use lib.Seq.{set-split, drop-at, length-take-le}
 use borrow.Author.Tests.{lt-ltb, le-ltb}
-use Rattle.lists.proofs.Ranges.{by-test, by-lt, by-last, gather-zero, gather-yes, gather-length, count-all}
+use Rattle.lists.proofs.Ranges.{by-test, by-lt, by-last, gather-zero, gather-yes, gather-all-length}
 use Rattle.scope.specs.Text.{text}
 use Rattle.scope.specs.Codes.{codeName, sectionCodes}
 use Rattle.lines.specs.Lines.{line, next}
@@ -37,7 +37,7 @@ nop-lines-next n = gather-yes (λ i. true) (λ i. lined (text "nop")) n refl
 
 pub length-nop-lines : (n : ℕ) → length (nopLines n) ≡ 4 * n
 unfolding nopLines lined text
-length-nop-lines n = gather-length (λ i. true) (λ i. lined (text "nop")) 4 (λ i t. refl) n ∙ rw (count-all n)
+length-nop-lines n = gather-all-length (λ i. lined (text "nop")) 4 (λ i. refl) n
 
 -- ---- numbers
 

@@ -7,7 +7,7 @@ ghost use lib.ListN.{length, drop};
 ghost use Rattle.scope.specs.Text.{text};
 ghost use Rattle.lines.specs.Keys.{valueAt, isKeyLine};
 ghost use Rattle.draft_lines.specs.Lines.{lined, decimalText, sectionLine, nopLines, spaceLine, labelLine, groupLines};
-ghost use Rattle.draft_lines.specs.Written.{Written};
+ghost use Rattle.lists.specs.Written.{Written};
 
 // Appends bytes.
 pub fn append(out: &mut [u8], at: u64, s: &[u8]) -> u64

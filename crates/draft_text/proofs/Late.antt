@@ -9,6 +9,8 @@ use lib.ListN.{length}
 use borrow.Author.Tests.{lt-ltb, le-ltb}
 use Rattle.lists.specs.Ranges.{first, gather}
 use Rattle.lists.proofs.Ranges.{first-here, first-next, first-end, gather-zero, gather-yes, gather-no}
+use Rattle.lists.specs.Written.{Written}
+use Rattle.lists.proofs.Written.{written-none, written-then, written-as}
 use Rattle.fields.specs.declared.ByteOrder.{ByteOrder}
 use Rattle.scope.specs.Text.{text}
 use Rattle.scope.specs.Limits.{FILE_LIMIT}
@@ -16,9 +18,7 @@ use Rattle.lines.specs.Keys.{isKeyLine}
 use Rattle.blocks.specs.Blocks.{groupAt, blockAt, blockCount}
 use Rattle.blocks.proofs.Blocks.{counted-group}
 use Rattle.places.specs.Spans.{live}
-use Rattle.draft_lines.specs.Written.{Written}
 use Rattle.draft_lines.specs.Lines.{lined, groupLines}
-use Rattle.draft_lines.proofs.Written.{written-none, written-then, written-as}
 use Rattle.draft_lines.proofs.Lines.{length-lined, group-lines-short}
 use Rattle.draft_text.specs.Draft.{lateText, lateLines, lateAt, hasLate, latePart}
 

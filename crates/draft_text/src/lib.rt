@@ -6,7 +6,7 @@ ghost use lib.ListN.{length};
 ghost use Rattle.blocks.specs.Blocks.{blockCount};
 ghost use Rattle.blocks.specs.Table.{Parsed};
 ghost use Rattle.places.specs.Spans.{spanCode, endAt};
-ghost use Rattle.draft_lines.specs.Written.{Written};
+ghost use Rattle.lists.specs.Written.{Written};
 ghost use Rattle.draft_text.specs.Draft.{labelText, labelsText, bodyText, fillOf, padText, lineText, linesText, lateAt, hasLate, lateLines, latePart, draftText};
 ghost use Rattle.draft_text.specs.Job.{Job};
 use fields::ByteOrder;

@@ -1,33 +1,23 @@
--- One step of the inputs after another: a test that passes leaves the rest to decide, and a fault is its refusal; what an accepted object gives; and what holds
--- of inputs that are taken. Assumes nothing.
-use mathlib.Core.Path.{_≡_, refl, sym, ap, _∙_}
-use mathlib.Core.Bool.{Bool, true, false, _||_}
+-- One step of the inputs after another: a test that passes leaves the rest to decide, and a fault is its refusal; and what holds of inputs that
+-- are taken. Assumes nothing.
+use mathlib.Core.Path.{_≡_, refl, _∙_}
+use mathlib.Core.Bool.{Bool, true, false}
 use mathlib.Core.List.{List}
-use Prim.Native.Nat.{ℕ, _≤_, _<_}
+use Prim.Native.Nat.{ℕ}
 use native.Mathlib.Omega.{arith}
-use lib.ListN.{length, getD, take, drop}
-use lib.Seq.{getD-take}
-use lib.Dec.{eqb, ltb}
-use borrow.Author.Tests.{lt-ltb, le-ltb, ltb-false, eqb-true}
+use lib.ListN.{length}
 use Rattle.fields.specs.declared.ByteOrder.{ByteOrder}
 use Rattle.fields.specs.declared.ByteOrder.the-variants.{Big}
-use Rattle.records.specs.declared.header.ElfHeader.{ElfHeader}
-use Rattle.records.proofs.Offsets.{elf-ident}
 use Rattle.scope.specs.declared.Finding.{Finding}
 use Rattle.scope.specs.declared.Finding.the-variants.{Clear, At}
-use Rattle.scope.specs.Refusals.{expect}
-use Rattle.elf.specs.Readers.{orderOf, header, sectionCount, contents}
-use Rattle.elf.specs.Bounds.{Headed}
-use Rattle.elf.proofs.Readers.{order-big}
-use Rattle.sections.specs.FileHeader.{fieldFault}
-use Rattle.sections.proofs.FileHeader.{header-long, header-fields}
-use Rattle.symbols.specs.Symbols.{symbolStrings, Table}
+use Rattle.scope.specs.Limits.{overLimits}
+use Rattle.scope.proofs.Limits.{in-limits}
+use Rattle.elf.specs.Readers.{orderOf, contents}
 use Rattle.object.specs.declared.View.{View}
 use Rattle.object.specs.declared.Checked.{Checked}
 use Rattle.object.specs.declared.Checked.the-variants.{Accepted, Refused}
 use Rattle.object.specs.Object.{viewOf, checkOf}
-use Rattle.object.specs.Sound.{Sound}
-use Rattle.object.proofs.Sound.{passed-of, accepted}
+use Rattle.object.proofs.Order.{accepted-big, accepted-in, accepted-table}
 use Rattle.blocks.specs.Blocks.{blockCount, blockFault}
 use Rattle.places.specs.declared.Placing.{Placing}
 use Rattle.places.specs.declared.Placing.the-variants.{Placed, Misplaced, Misaligned}
@@ -36,44 +26,8 @@ use Rattle.spans.specs.Table.{Laid}
 use Rattle.answers.specs.Answers.{Answer, refused}
 use Rattle.inputs.specs.declared.Inputs.{Inputs}
 use Rattle.inputs.specs.declared.Inputs.the-variants.{Taken, Faulty}
-use Rattle.inputs.specs.Inputs.{pickInputs, overLimits, ifSound, ifRead, ifPlaced, assembledOf, placesOf, blocksOf, compiledOf, inputsOf, ifTaken}
-use Rattle.inputs.specs.Read.{InLimits, Opened, Read, Given}
-
--- ---- an accepted object is big-endian
-
-expect-parts : (b : Bool) (place : ℕ) (rest : Finding) → expect b place rest ≡ Clear → (b ≡ true) × (rest ≡ Clear)
-unfolding expect
-expect-parts true place rest e = (refl, e)
-expect-parts false place rest e = (cc, cc)
-
--- the sixth test of the header: EI_DATA
-data-field : (h : ElfHeader) → fieldFault h ≡ Clear → getD (h .«e_ident») 5 0 ≡ 2
-unfolding fieldFault
-data-field h e =
-    let a = expect-parts _ _ _ e in
-    let b = expect-parts _ _ _ (a .1) in
-    let c = expect-parts _ _ _ (b .1) in
-    let d = expect-parts _ _ _ (c .1) in
-    let f = expect-parts _ _ _ (d .1) in
-    eqb-true _ _ (expect-parts _ _ _ (f .1) .0)
-
-module _ (F : List ℕ) (v : View) (e : checkOf F ≡ Accepted v) where
-  pub accepted-big : orderOf F ≡ Big
-  unfolding checkOf header
-  accepted-big =
-      let o = orderOf F in
-      let p = passed-of o F v e in
-      let whole = header-long o F (p .header) in
-      let i : getD (header o F .«e_ident») 5 0 ≡ 2 = data-field (header o F) (header-fields o F (p .header)) in
-      let t : getD (take 16 F) 5 0 ≡ 2 = rw (elf-ident o F 0 (omega arith)) at i in
-      let d : getD F 5 0 ≡ 2 = rw (getD-take 16 F 5 0 (omega arith)) at t in
-      sym (order-big F (λ one. absurd (omega arith)))
-
-  -- one order serves every accepted object
-  pub accepted-in : (o : ByteOrder) → o ≡ Big → (v ≡ viewOf o F) × Sound o F
-  accepted-in o b =
-      let q : orderOf F ≡ o = accepted-big ∙ sym b in
-      rw q at (accepted F v e)
+use Rattle.inputs.specs.Inputs.{pickInputs, ifSound, ifRead, ifPlaced, assembledOf, placesOf, blocksOf, compiledOf, inputsOf, ifTaken}
+use Rattle.inputs.specs.Read.{Opened, Read, Given}
 
 -- ---- steps
 
@@ -123,42 +77,6 @@ inputs-over rest t e = rw e
 pub inputs-rest : (rest : Inputs) (t : Bool) → t ≡ false → rest ≡ pickInputs t (Faulty 1 0 0) rest
 inputs-rest rest t e = rw e
 
--- ---- refusal 1, test by test
-
-module _ (c p b t s : ℕ) where
-  pub over-1 : 1048576 < c → true ≡ overLimits c p b t s
-  unfolding overLimits
-  over-1 h = rw (lt-ltb _ _ h)
-
-  pub over-2 : c ≤ 1048576 → 1048576 < p → true ≡ overLimits c p b t s
-  unfolding overLimits
-  over-2 h i = rw (le-ltb _ _ h, lt-ltb _ _ i)
-
-  pub over-3 : c ≤ 1048576 → p ≤ 1048576 → 1048576 < b → true ≡ overLimits c p b t s
-  unfolding overLimits
-  over-3 h i j = rw (le-ltb _ _ h, le-ltb _ _ i, lt-ltb _ _ j)
-
-  pub over-4 : c ≤ 1048576 → p ≤ 1048576 → b ≤ 1048576 → t < 49152 → true ≡ overLimits c p b t s
-  unfolding overLimits
-  over-4 h i j k = rw (le-ltb _ _ h, le-ltb _ _ i, le-ltb _ _ j, lt-ltb _ _ k)
-
-  pub over-5 : c ≤ 1048576 → p ≤ 1048576 → b ≤ 1048576 → 49152 ≤ t → ltb s 32768 ≡ overLimits c p b t s
-  unfolding overLimits
-  over-5 h i j k = rw (le-ltb _ _ h, le-ltb _ _ i, le-ltb _ _ j, le-ltb _ _ k)
-
-  pub in-limits : overLimits c p b t s ≡ false → InLimits c p b t s
-  unfolding overLimits
-  in-limits e =
-      let a = or-parts (ltb 1048576 c) _ e in
-      let d = or-parts (ltb 1048576 p) _ (a .1) in
-      let f = or-parts (ltb 1048576 b) _ (d .1) in
-      let g = or-parts (ltb t 49152) _ (f .1) in
-      record { compiled-limit = ltb-false _ _ (a .0); assembled-limit = ltb-false _ _ (d .0); blocks-limit = ltb-false _ _ (f .0); table-size = ltb-false _ _ (g .0); places-size = ltb-false _ _ (g .1) }
-    where
-      or-parts : (a b : Bool) → (a || b) ≡ false → (a ≡ false) × (b ≡ false)
-      or-parts true b e = (e, cc)
-      or-parts false b e = (refl, e)
-
 -- ---- records of the steps
 
 -- a refusal leaves no tables to speak of
@@ -179,26 +97,9 @@ both-taken o C A B c a n b e f m =
 
 -- C's view and its symbols in hand
 pub opened-of : (C : List ℕ) (v : View) (o : ByteOrder) (s : List ℕ) → checkOf C ≡ Accepted v → o ≡ orderOf C → s ≡ contents o C (v .«symbol_strings») → Opened o C v s
-unfolding viewOf symbolStrings
 opened-of C v o s e q is =
     let b : o ≡ Big = q ∙ accepted-big C v e in
-    let w = accepted-in C v e o b in
-    record {
-      big = b;
-      viewed = w .0;
-      symbols = record {
-        tabled = w .1 .tabled;
-        at = ap (λ (x : View). x .«symbols_at») (w .0);
-        many = ap (λ (x : View). x .symbols) (w .0);
-        names = is ∙ ap (λ (x : View). contents o C (x .«symbol_strings»)) (w .0);
-      };
-    }
-
-pub opened-headed : (C : List ℕ) (v : View) (o : ByteOrder) → checkOf C ≡ Accepted v → o ≡ orderOf C → Headed o C × (v .«symbol_strings» < sectionCount o C)
-unfolding viewOf
-opened-headed C v o e q =
-    let w = accepted-in C v e o (q ∙ accepted-big C v e) in
-    (w .1 .named .headed, rw (w .0) (w .1 .tabled .strings))
+    record { big = b; viewed = accepted-in C v e o b .0; symbols = accepted-table C v o e q s is }
 
 -- the steps behind C's check, in the byte order that C states
 pub in-order : (o : ByteOrder) (r : Inputs) (C A B : List ℕ) (table places : List ℕ) (answer : Inputs) → o ≡ orderOf C → Read o C B (blocksOf o C A B) r table places
@@ -240,7 +141,7 @@ inputs-given C A B table places c a n e =
       assembledView = parts .1;
       many = parts .2;
       compiledSmall = l .compiled-limit;
-      assembledSmall = l .assembled-limit;
+      assembledSmall = l .beside-limit;
     }
   where
     taken-parts : (x y c a : View) (z n : ℕ) → Taken x y z ≡ Taken c a n → (c ≡ x) × (a ≡ y) × (n ≡ z)

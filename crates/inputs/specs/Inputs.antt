@@ -1,14 +1,13 @@
 -- The inputs of a merge, in document 01's order of refusals: 1; C by 2 to 6; 7; blocks by 8 and 9; A by 2 to 6. What is asked of C and A together (10 to 20) comes
 -- after, from what an accepted answer gives: both views and the number of blocks.
 use Prim.Native.Nat.{ℕ}
-use mathlib.Core.Bool.{Bool, true, false, _||_}
+use mathlib.Core.Bool.{Bool, true, false}
 use mathlib.Core.List.{List}
 use lib.ListN.{length}
-use lib.Dec.{ltb}
 use Rattle.fields.specs.declared.ByteOrder.{ByteOrder}
 use Rattle.scope.specs.declared.Finding.{Finding}
 use Rattle.scope.specs.declared.Finding.the-variants.{Clear, At}
-use Rattle.scope.specs.Limits.{FILE_LIMIT, BLOCK_TABLE, PLACE_TABLE}
+use Rattle.scope.specs.Limits.{overLimits}
 use Rattle.scope.specs.Refusals.{LIMITS, BLOCK_FILE, BLOCK_PLACE, BLOCK_ALIGNMENT}
 use Rattle.elf.specs.Readers.{orderOf}
 use Rattle.object.specs.declared.Checked.{Checked}
@@ -25,11 +24,6 @@ use Rattle.inputs.specs.declared.Inputs.the-variants.{Taken, Faulty}
 abbrev pub pickInputs : Bool → Inputs → Inputs → Inputs
 pickInputs true a b = a
 pickInputs false a b = b
-
--- refusal 1: C, A or the block file over the limit, or a working buffer below its constant
-unfoldable pub overLimits : ℕ → ℕ → ℕ → ℕ → ℕ → Bool
-overLimits compiled assembled blocks table places =
-    ltb FILE_LIMIT compiled || (ltb FILE_LIMIT assembled || (ltb FILE_LIMIT blocks || (ltb table BLOCK_TABLE || ltb places PLACE_TABLE)))
 
 -- refusals 2 to 6 of an object: 1 is C, 2 is A
 unfoldable pub ifSound : ℕ → Checked → Inputs → Inputs

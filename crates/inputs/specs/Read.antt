@@ -6,7 +6,7 @@ use lib.ListN.{length}
 use Rattle.fields.specs.declared.ByteOrder.{ByteOrder}
 use Rattle.fields.specs.declared.ByteOrder.the-variants.{Big}
 use Rattle.symbols.specs.Symbols.{Table}
-use Rattle.scope.specs.Limits.{FILE_LIMIT, BLOCK_TABLE, PLACE_TABLE}
+use Rattle.scope.specs.Limits.{FILE_LIMIT}
 use Rattle.object.specs.declared.View.{View}
 use Rattle.object.specs.Object.{viewOf}
 use Rattle.object.specs.Sound.{Sound}
@@ -14,14 +14,6 @@ use Rattle.blocks.specs.Blocks.{blockCount}
 use Rattle.spans.specs.Table.{Laid}
 use Rattle.inputs.specs.declared.Inputs.{Inputs}
 use Rattle.inputs.specs.declared.Inputs.the-variants.{Taken}
-
--- refusal 1 has passed
-pub record InLimits (compiled assembled blocks table places : ℕ) : Type 0 where
-  pub compiled-limit : compiled ≤ FILE_LIMIT
-  pub assembled-limit : assembled ≤ FILE_LIMIT
-  pub blocks-limit : blocks ≤ FILE_LIMIT
-  pub table-size : BLOCK_TABLE ≤ table
-  pub places-size : PLACE_TABLE ≤ places
 
 -- the compiled object is accepted, with its view and its symbols' names in hand
 pub record Opened (o : ByteOrder) (C : List ℕ) (view : View) (strings : List ℕ) : Type 0 where

@@ -10,7 +10,8 @@ use borrow.Author.Tests.{lt-ltb, le-ltb, eq-eqb, ne-eqb}
 use Rattle.lists.specs.Ranges.{first}
 use Rattle.lists.specs.Strings.{same, nameAt}
 use Rattle.lists.proofs.Ranges.{first-here, first-end}
-use Rattle.lists.proofs.Strings.{drop-step, name-cons, name-nil}
+use Rattle.lists.proofs.Windows.{drop-next}
+use Rattle.lists.proofs.Strings.{name-cons, name-nil}
 use Rattle.fields.specs.declared.ByteOrder.{ByteOrder}
 use Rattle.records.specs.declared.symbol.SymbolEntry.{SymbolEntry}
 use Rattle.scope.specs.declared.Finding.the-variants.{Clear, At}
@@ -25,7 +26,7 @@ use Rattle.labels.specs.Labels.{isAt, isLined, isMislabelled, mislabelle
 
 module _ (t l s : List ℕ) (j i : ℕ) where
   rest-step : i < length l → drop i l ++ s ≡ getD l i 0 ∷ (drop (i + 1) l ++ s)
-  rest-step h = rw (drop-step l i h)
+  rest-step h = rw (drop-next l i 0 h)
 
   pub joined-next : j < length t → (getD t j 0 ≡ 0 → ⊥) → i < length l → getD t j 0 ≡ getD l i 0
       → same (nameAt t j) (drop i l ++ s) ≡ same (nameAt t (j + 1)) (drop (i + 1) l ++ s)

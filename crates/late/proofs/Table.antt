@@ -1,18 +1,17 @@
 -- The laws of the table of the late step: its rows have 12 bytes each and its words 4, rows and words are written beside each other, and each is read back
 -- from a table in hand. Assumes nothing.
 use Prim.Native.Nat.{ℕ, zero, suc, _+_, _*_, _≤_, _<_}
-use mathlib.Core.Path.{_≡_, refl, sym, ap, _∙_}
+use mathlib.Core.Path.{_≡_, refl, ap, _∙_}
 use mathlib.Core.Bool.{true, false}
 use mathlib.Core.List.{List, [], _∷_, _++_}
 use native.Mathlib.Numerals.{add-one}
 use native.Mathlib.Omega.{arith}
 use lib.ListN.{length, getD, length-append}
-use lib.Seq.{ext-getD}
 use Rattle.lists.specs.Ranges.{select}
 use Rattle.lists.specs.Windows.{Within, spliced}
-use Rattle.lists.proofs.Ranges.{by-lt, by-test, first-high, first-none, count-all, sum-zero, sum-next, sum-mono, gather-zero, gather-yes, gather-length, gather-split, select-length, select-at}
+use Rattle.lists.proofs.Ranges.{by-test, first-high, first-none, sum-zero, sum-next, sum-mono, gather-zero, gather-yes, gather-split, gather-all-length, select-all-at, select-all-length}
 use Rattle.lists.proofs.Records.{length-flat, within-flat}
-use Rattle.lists.proofs.Windows.{within-second, within-head, length-spliced, spliced-nil, spliced-then, spliced-in, spliced-before, spliced-after}
+use Rattle.lists.proofs.Windows.{within-second, within-head, length-spliced, spliced-nil, spliced-then, spliced-comm}
 use Rattle.fields.specs.declared.ByteOrder.{ByteOrder}
 use Rattle.fields.specs.declared.ByteOrder.the-variants.{Big}
 use Rattle.fields.specs.Numbers.{encoded}
@@ -29,49 +28,6 @@ use Rattle.late_blocks.specs.Items.{placeFrom, faultFrom, soundItems, placeWord
 use Rattle.late.specs.Steps.{liveDummies}
 use Rattle.late.specs.Table.{WORDS, dummyIndex, lateRow, rowTable, blockWords, wordTable, filled}
 
--- ---- two writes beside each other
-
-module _ (l : List ℕ) (o : ℕ) (a : List ℕ) (p : ℕ) (b : List ℕ) (apart : o + length a ≤ p) (room : p + length b ≤ length l) where
-  first-room : o + length a ≤ length (spliced l p b)
-  first-room = rw (length-spliced l p b room) (omega arith)
-
-  second-room : p + length b ≤ length (spliced l o a)
-  second-room = rw (length-spliced l o a (omega arith)) room
-
-  byte-same : (x : ℕ) → getD (spliced (spliced l p b) o a) x 0 ≡ getD (spliced (spliced l o a) p b) x 0
-  byte-same x = by-lt x o
-      (λ h.
-      spliced-before (spliced l p b) o a first-room x h
-      ∙ spliced-before l p b room x (omega arith)
-      ∙ sym (spliced-before (spliced l o a) p b second-room x (omega arith) ∙ spliced-before l o a (omega arith) x h))
-      (λ h. by-lt x (o + length a)
-      (λ g.
-      spliced-in (spliced l p b) o a first-room x h g
-      ∙ sym (spliced-before (spliced l o a) p b second-room x (omega arith) ∙ spliced-in l o a (omega arith) x h g))
-      (λ g. by-lt x p
-      (λ u.
-      spliced-after (spliced l p b) o a first-room x g
-      ∙ spliced-before l p b room x u
-      ∙ sym (spliced-before (spliced l o a) p b second-room x u ∙ spliced-after l o a (omega arith) x g))
-      (λ u. by-lt x (p + length b)
-      (λ v.
-      spliced-after (spliced l p b) o a first-room x g
-      ∙ spliced-in l p b room x u v
-      ∙ sym (spliced-in (spliced l o a) p b second-room x u v))
-      (λ v.
-      spliced-after (spliced l p b) o a first-room x g
-      ∙ spliced-after l p b room x v
-      ∙ sym (spliced-after (spliced l o a) p b second-room x v ∙ spliced-after l o a (omega arith) x g)))))
-
-  -- they may be made in either order
-  pub spliced-comm : spliced (spliced l p b) o a ≡ spliced (spliced l o a) p b
-  spliced-comm =
-      ext-getD 0 (spliced (spliced l p b) o a) (spliced (spliced l o a) p b)
-      (length-spliced (spliced l p b) o a first-room
-      ∙ length-spliced l p b room
-      ∙ sym (length-spliced (spliced l o a) p b second-room ∙ length-spliced l o a (omega arith)))
-      (λ x h. byte-same x)
-
 -- ---- rows
 
 module _ (o : ByteOrder) (C B R : List ℕ) (s : ℕ) where
@@ -81,7 +37,7 @@ module _ (o : ByteOrder) (C B R : List ℕ) (s : ℕ) where
 
   pub length-rows : (n : ℕ) → length (rowTable o C B R s n) ≡ 12 * n
   unfolding rowTable
-  length-rows n = gather-length (λ i. true) (lateRow o C B R s) 12 (λ i t. length-row i) n ∙ ap (λ (k : ℕ). 12 * k) (count-all n)
+  length-rows n = gather-all-length (lateRow o C B R s) 12 length-row n
 
   pub rows-zero : rowTable o C B R s 0 ≡ []
   unfolding rowTable
@@ -152,7 +108,7 @@ module _ (o : ByteOrder) (C B R : List ℕ) where
   length-block i =
       let n = soundItems o B R i (lateFrom o C B R i) (liveDummies o C B i) in
       length-flat (encoded Big 4) 4 (length-encoded Big 4) (select (λ k. true) (placeFrom o B R i (lateFrom o C B R i)) n)
-      ∙ ap (λ (m : ℕ). 4 * m) (select-length (λ k. true) (placeFrom o B R i (lateFrom o C B R i)) n ∙ count-all n)
+      ∙ ap (λ (m : ℕ). 4 * m) (select-all-length (placeFrom o B R i (lateFrom o C B R i)) n)
 
   pub block-room : (i : ℕ) → length (blockWords o C B R i) ≤ 4 * liveDummies o C B i
   block-room i = omega (arith, length-block i, words-few i)
@@ -204,14 +160,12 @@ module _ (o : ByteOrder) (C B R : List ℕ) where
     within-dummy k l =
         rw (all-sound, ← picked k l)
         (within-flat (encoded Big 4) 4 (length-encoded Big 4) (select (λ j. true) (placeFrom o B R i (lateFrom o C B R i)) (liveDummies o C B i)) k 0
-        (rw (select-length (λ j. true) (placeFrom o B R i (lateFrom o C B R i)) (liveDummies o C B i), count-all) l))
+        (rw (select-all-length (placeFrom o B R i (lateFrom o C B R i)) (liveDummies o C B i)) l))
       where
         picked : (k : ℕ) → k < liveDummies o C B i
             → getD (select (λ j. true) (placeFrom o B R i (lateFrom o C B R i)) (liveDummies o C B i)) k 0 ≡ place o C B R i k
         picked k l =
-            ap (λ (n : ℕ). getD (select (λ j. true) (placeFrom o B R i (lateFrom o C B R i)) (liveDummies o C B i)) n 0) (sym (count-all k))
-            ∙ select-at (λ j. true) (placeFrom o B R i (lateFrom o C B R i)) k (liveDummies o C B i) 0 l refl
-            ∙ same-place i k
+            select-all-at (placeFrom o B R i (lateFrom o C B R i)) k (liveDummies o C B i) 0 l ∙ same-place i k
 
 -- ---- a table filled so far
 

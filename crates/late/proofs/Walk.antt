@@ -12,7 +12,9 @@ use Rattle.lists.specs.Ranges.{first}
 use Rattle.lists.specs.Records.{flat}
 use Rattle.lists.specs.Windows.{spliced}
 use Rattle.lists.proofs.Ranges.{first-here, first-next, first-end, first-high, first-ext, sum-mono}
-use Rattle.lists.proofs.Windows.{within-spliced, length-spliced}
+use Rattle.lists.proofs.Windows.{within-spliced, length-spliced, spliced-comm}
+use Rattle.lists.specs.Rows.{indexIn, hasIndex, rowIn}
+use Rattle.lists.proofs.Rows.{none-index}
 use Rattle.fields.specs.declared.ByteOrder.{ByteOrder}
 use Rattle.fields.specs.declared.ByteOrder.the-variants.{Big}
 use Rattle.fields.specs.Numbers.{encoded}
@@ -22,9 +24,7 @@ use Rattle.scope.specs.Refusals.{pickFinding, foundBelow}
 use Rattle.blocks.specs.Blocks.{blockCount}
 use Rattle.blocks.proofs.Blocks.{count-high}
 use Rattle.block_values.specs.BlockValues.{lateBytes, lateLength}
-use Rattle.moves.specs.Rows.{indexIn, hasIndex, rowIn}
 use Rattle.moves.specs.Moves.{lastFrom, items, lateSource, lateFrom, lastPlace, isFaulty, lateFault}
-use Rattle.moves.proofs.Rows.{none-index}
 use Rattle.moves.proofs.Moves.{source-zero, source-next, late-zero, late-next}
 use Rattle.late.specs.declared.Step.{Step}
 use Rattle.late.specs.declared.Step.the-variants.{Next, Stop}
@@ -32,7 +32,7 @@ use Rattle.late_blocks.specs.Items.{faultFrom, soundItems, placeWords}
 use Rattle.late.specs.Steps.{liveDummies, pickStep, stepOf}
 use Rattle.late.specs.Table.{WORDS, dummyIndex, lateRow, rowTable, blockWords, wordTable, filled, Ready, Walk, Moves}
 use Rattle.late_blocks.proofs.Items.{sound-high, sound-inside}
-use Rattle.late.proofs.Table.{spliced-comm, length-rows, index-zero, index-next, index-few, words-zero, block-room, words-full, length-words, filled-none, filled-row, filled-words, length-filled}
+use Rattle.late.proofs.Table.{length-rows, index-zero, index-next, index-few, words-zero, block-room, words-full, length-words, filled-none, filled-row, filled-words, length-filled}
 
 -- ---- what a step tells
 

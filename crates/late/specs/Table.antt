@@ -26,10 +26,6 @@ use Rattle.late.specs.Steps.{liveDummies}
 abbrev pub WORDS : ℕ
 WORDS = 12300
 
--- the least length of the table: 69,905 dummies at most stand in a block file
-abbrev pub LATE_TABLE : ℕ
-LATE_TABLE = 291920
-
 -- how many dummies stand before block i
 unfoldable pub dummyIndex : ByteOrder → List ℕ → List ℕ → ℕ → ℕ
 dummyIndex o C B i = sum (liveDummies o C B) i

@@ -12,7 +12,7 @@ use borrow.Author.Tests.{lt-ltb, le-ltb, ne-eqb, ltb-true, ltb-false}
 use Rattle.lists.specs.Ranges.{first, select}
 use Rattle.lists.specs.Records.{flat}
 use Rattle.lists.specs.Windows.{spliced}
-use Rattle.lists.proofs.Ranges.{by-test, by-lt, first-here, first-next, first-end, first-is, first-high, first-unique, first-none, none-first, first-more, count-all, select-zero, select-yes, select-length}
+use Rattle.lists.proofs.Ranges.{by-test, by-lt, first-here, first-next, first-end, first-is, first-high, first-unique, first-none, none-first, first-more, select-zero, select-yes, select-all-length}
 use Rattle.lists.proofs.Records.{flat-append, flat-none, flat-one, length-flat}
 use Rattle.lists.proofs.Windows.{length-spliced, spliced-nil, spliced-then}
 use Rattle.fields.specs.declared.ByteOrder.{ByteOrder}
@@ -83,7 +83,7 @@ module _ (o : ByteOrder) (B R : List ℕ) (i last : ℕ) where
   length-words : (k : ℕ) → length (firstWords k) ≡ 4 * k
   length-words k =
       length-flat (encoded Big 4) 4 (length-encoded Big 4) (select (λ j. true) (placeFrom o B R i last) k)
-      ∙ ap (λ (n : ℕ). 4 * n) (select-length (λ j. true) (placeFrom o B R i last) k ∙ count-all k)
+      ∙ ap (λ (n : ℕ). 4 * n) (select-all-length (placeFrom o B R i last) k)
 
   words-next : (k : ℕ) → firstWords (k + 1) ≡ firstWords k ++ encoded Big 4 (placeFrom o B R i last k)
   words-next k = rw (select-yes (λ j. true) (placeFrom o B R i last) k refl, flat-append, flat-one)

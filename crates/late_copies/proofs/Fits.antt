@@ -7,6 +7,7 @@ use lib.ListN.{length, take, drop, getD, getD-replicate}
 use lib.Seq.{take-all}
 use borrow.Author.Tests.{lt-ltb, le-ltb, le-leb, lt-leb}
 use Rattle.lists.proofs.Ranges.{by-test, by-lt, sum-mono}
+use Rattle.lists.proofs.Windows.{part-same}
 use Rattle.buffers.specs.Buffers.{zeros}
 use Rattle.buffers.proofs.Buffers.{length-zeros}
 use Rattle.fields.specs.declared.ByteOrder.{ByteOrder}
@@ -16,7 +17,7 @@ use Rattle.block_values.specs.BlockValues.{lateBytes, lateLength}
 use Rattle.moves.specs.Moves.{items, itemLength, lateSource, source, place, isShifted, lateFault}
 use Rattle.moves.specs.Moved.{lateByte, lateRodata}
 use Rattle.moves.proofs.Moves.{source-end, place-inside}
-use Rattle.moves.proofs.Moved.{part-same, length-late, late-at}
+use Rattle.moves.proofs.Moved.{length-late, late-at}
 use Rattle.late_runs.specs.declared.Run.{Run}
 use Rattle.late_runs.specs.declared.Run.the-variants.{Kept, Late, Zeros}
 use Rattle.late_runs.specs.Runs.{runLength, runByte, runBlock, runItem, gapRun, itemRun, runAt}

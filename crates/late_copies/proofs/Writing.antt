@@ -21,7 +21,7 @@ use Rattle.late_runs.specs.declared.Run.{Run}
 use Rattle.late_runs.specs.Runs.{runLength, runAt}
 use Rattle.late_runs.specs.Words.{InHand}
 use Rattle.late_copied.proofs.Copied.{rest-copied}
-use Rattle.runs.proofs.Pieces.{Begun, begun-none, begun-next, begun-end}
+use Rattle.lists.proofs.Pieces.{Begun, begun-none, begun-next, begun-end}
 use Rattle.late_copies.specs.Writing.{runSource, runEnd, runBytes, Moved, Wrote, Final}
 use Rattle.late_copies.proofs.Fits as fit
 

@@ -9,7 +9,9 @@ use native.Mathlib.Omega.{arith}
 use lib.ListN.{length}
 use lib.Dec.{leb, eqb}
 use borrow.Author.Tests.{lt-ltb, le-ltb, le-leb, lt-leb, ltb-true, leb-true, eqb-true}
-use Rattle.lists.proofs.Ranges.{by-lt, and-parts, first-is, first-to, first-high, first-unique}
+use Rattle.lists.specs.Ranges.{first}
+use Rattle.lists.proofs.Ranges.{by-lt, and-parts, first-is, first-unique}
+use Rattle.lists.proofs.Halves.{GoesOn}
 use Rattle.fields.specs.declared.ByteOrder.the-variants.{Big}
 use Rattle.fields.specs.Numbers.{number}
 use Rattle.late.specs.Table.{WORDS}
@@ -103,32 +105,26 @@ module _ (late : List ℕ) (n : ℕ) (s : Sound late n) (f : ℕ) (g : f < 3) wh
     unfolding isPast
     past-true i t = ltb-true _ _ t
 
-    past-yes : (i : ℕ) → x < field late f (i + 1) → isPast late f x i ≡ true
+    pub past-yes : (i : ℕ) → x < field late f (i + 1) → isPast late f x i ≡ true
     unfolding isPast
     past-yes i h = lt-ltb _ _ h
 
-    past-no : (i : ℕ) → field late f (i + 1) ≤ x → isPast late f x i ≡ false
+    pub past-no : (i : ℕ) → field late f (i + 1) ≤ x → isPast late f x i ≡ false
     unfolding isPast
     past-no i h = le-ltb _ _ h
 
-    pub holder-high : holder late f n x ≤ n
+    pub holder-read : (r : ℕ) → r ≡ first (isPast late f x) 0 n → r ≡ holder late f n x
     unfolding holder
-    holder-high = first-high (isPast late f x) 0 n (omega arith)
+    holder-read r e = e
 
     -- what is found: x lies before the next row's field
     pub holder-past : holder late f n x < n → x < field late f (holder late f n x + 1)
     unfolding holder
     holder-past h = past-true _ (first-is (isPast late f x) 0 n (omega arith) .here h)
 
-    -- the two ways of a turn
-    pub holder-left : (m : ℕ) → m < n → x < field late f (m + 1) → holder late f n x ≤ m
-    unfolding holder
-    holder-left m h l = first-to (isPast late f x) 0 n m (omega arith) h (past-yes m l)
-
-    pub holder-right : (m : ℕ) → m < n → field late f (m + 1) ≤ x → m + 1 ≤ holder late f n x
-    holder-right m h l = by-lt m (holder late f n x)
-        (λ u. omega arith)
-        (λ u. absurd (omega (arith, holder-past (omega arith), field-mono (holder late f n x + 1) (m + 1) (omega arith) (omega arith))))
+    -- a row behind one that is past x is past x
+    pub past-on : GoesOn (isPast late f x) n
+    past-on i j l h t = past-yes j (omega (arith, past-true i t, field-mono (i + 1) (j + 1) (omega arith) (omega arith)))
 
     -- the row whose range holds x
     pub holder-is : (j : ℕ) → j < n → field late f j ≤ x → x < field late f (j + 1) → holder late f n x ≡ j

@@ -10,12 +10,13 @@ use lib.ListN.{length, getD}
 use lib.Dec.{ltb}
 use borrow.Author.Tests.{lt-ltb, le-ltb, le-leb, lt-leb, ltb-true, ltb-false}
 use Rattle.lists.proofs.Ranges.{by-test, by-lt, both, first-is, first-to}
+use Rattle.lists.proofs.Rows.{Before, by-order}
 use Rattle.fields.specs.declared.ByteOrder.{ByteOrder}
 use Rattle.blocks.specs.Blocks.{blockCount}
 use Rattle.places.specs.Spans.{endAt}
 use Rattle.moves.specs.Moves.{items, itemLength, source, lateFrom, lastPlace, place, isShifted}
 use Rattle.moves.specs.Moved.{covers, zeroes, lateByte}
-use Rattle.moves.proofs.Moves.{late-zero, late-next, last-zero, last-next, place-end, search-past, places-ascend, Before, by-order}
+use Rattle.moves.proofs.Moves.{late-zero, late-next, last-zero, last-next, place-end, search-past, places-ascend}
 use Rattle.moves.proofs.Moved.{cover-yes, cover-low, cover-high, zero-in, zero-yes, covered-byte, zeroed-byte, other-byte}
 use Rattle.late_runs.specs.declared.Run.{Run}
 use Rattle.late_runs.specs.declared.Run.the-variants.{Kept, Late, Zeros}

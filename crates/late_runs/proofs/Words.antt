@@ -6,7 +6,9 @@ use mathlib.Core.List.{List}
 use native.Mathlib.Omega.{arith}
 use lib.Dec.{eqb, ltb}
 use borrow.Author.Tests.{lt-ltb, le-ltb, le-leb, lt-leb, ltb-true, eq-eqb, ne-eqb}
-use Rattle.lists.proofs.Ranges.{by-test, by-lt, first-is, first-to, first-high}
+use Rattle.lists.specs.Ranges.{first}
+use Rattle.lists.proofs.Ranges.{by-test, first-is, first-high}
+use Rattle.lists.proofs.Halves.{GoesOn}
 use Rattle.fields.specs.declared.ByteOrder.{ByteOrder}
 use Rattle.fields.specs.declared.ByteOrder.the-variants.{Big}
 use Rattle.fields.specs.Numbers.{number}
@@ -27,9 +29,13 @@ module _ (late : List ℕ) (i x : ℕ) where
   unfolding wordPast
   past-true k t = ltb-true _ _ t
 
-  past-yes : (k : ℕ) → x < dummyPlace late i k + 4 → wordPast late i x k ≡ true
+  pub past-yes : (k : ℕ) → x < dummyPlace late i k + 4 → wordPast late i x k ≡ true
   unfolding wordPast
   past-yes k h = lt-ltb _ _ h
+
+  pub past-no : (k : ℕ) → dummyPlace late i k + 4 ≤ x → wordPast late i x k ≡ false
+  unfolding wordPast
+  past-no k h = le-ltb _ _ h
 
   pub over-high : dummyOver late i x ≤ rowDummies late i
   unfolding dummyOver
@@ -39,15 +45,13 @@ module _ (late : List ℕ) (i x : ℕ) where
   unfolding dummyOver
   over-past h = past-true _ (first-is (wordPast late i x) 0 (rowDummies late i) (omega arith) .here h)
 
-  -- the two ways of a turn
-  pub over-left : (m : ℕ) → m < rowDummies late i → x < dummyPlace late i m + 4 → dummyOver late i x ≤ m
-  unfolding dummyOver
-  over-left m h l = first-to (wordPast late i x) 0 (rowDummies late i) m (omega arith) h (past-yes m l)
+  -- a word behind one that ends past x ends past x
+  pub past-on : (n count : ℕ) → Rising late n i → count ≡ rowDummies late i → GoesOn (wordPast late i x) count
+  past-on n count s e k l h u t = past-yes l (omega (arith, past-true k t, s .rises k l h (omega arith)))
 
-  pub over-right : (n m : ℕ) → Rising late n i → m < rowDummies late i → dummyPlace late i m + 4 ≤ x → m + 1 ≤ dummyOver late i x
-  over-right n m s h l = by-lt m (dummyOver late i x)
-      (λ u. omega arith)
-      (λ u. absurd (omega (arith, over-past (omega arith), s .rises (dummyOver late i x) m u h)))
+  pub over-read : (count r : ℕ) → count ≡ rowDummies late i → r ≡ first (wordPast late i x) 0 count → r ≡ dummyOver late i x
+  unfolding dummyOver
+  over-read count r e q = rw (← e) q
 
 -- ---- a dummy that moved on
 

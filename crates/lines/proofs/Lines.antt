@@ -1,24 +1,16 @@
 -- The laws of lines: the turns of the loop that looks for an LF, where a line's end lies, and how the line number grows. A line's end is a first
 -- index, so each comes from the laws of first indices and of counts. Assumes nothing.
-use Prim.Native.Nat.{ℕ, zero, suc, _+_, _-_, _≤_, _<_}
+use Prim.Native.Nat.{ℕ, _+_, _-_, _≤_, _<_}
 use mathlib.Core.Path.{_≡_, sym, ap, _∙_}
-use mathlib.Core.Bool.{Bool, true, false}
+use mathlib.Core.Bool.{true, false}
 use mathlib.Core.List.{List, []}
-use native.Mathlib.Nat.{add-zero}
 use native.Mathlib.Omega.{arith}
 use lib.ListN.{length, drop, getD, drop-of-length-le, length-drop}
 use lib.Seq.{take-nil, length-take-le}
 use borrow.Author.Tests.{eq-eqb, ne-eqb, ltb-true, lt-ltb, le-ltb}
 use Rattle.lists.specs.Ranges.{count, IsFirst}
-use Rattle.lists.proofs.Ranges.{first-here, first-next, first-end, first-is, first-low, first-high, count-yes, count-no}
+use Rattle.lists.proofs.Ranges.{first-here, first-next, first-end, first-is, first-low, first-high, count-yes, count-skip}
 use Rattle.lines.specs.Lines.{feedAt, lineEnd, isWhole, line, next, lineNumber}
-
--- indices that do not pass are not counted
-pub count-skip : (p : ℕ → Bool) (a k : ℕ) → ((j : ℕ) → a ≤ j → j < a + k → p j ≡ false) → count p (a + k) ≡ count p a
-count-skip p a zero none = rw (add-zero a)
-count-skip p a (suc k) none =
-    let e : a + suc k ≡ a + k + 1 = omega arith in
-    rw (e, count-no p (a + k) (none (a + k) (omega arith) (omega arith))) (count-skip p a k (λ j l u. none j l (omega arith)))
 
 module _ (B : List ℕ) where
   pub feed-true : (i : ℕ) → getD B i 0 ≡ 10 → feedAt B i ≡ true

@@ -13,7 +13,7 @@ use lib.Dec.{eqb, ltb, leb}
 use borrow.Author.Tests.{eq-eqb, ne-eqb, eqb-true, eqb-false, lt-ltb, ltb-true, leb-true, lt-leb, not-true, not-false}
 use Rattle.lists.specs.Ranges.{first, IsFirst}
 use Rattle.lists.proofs.Ranges.{and-parts, by-test, both, by-lt, first-none, none-first, first-is, first-high}
-use Rattle.lists.proofs.Strings.{drop-step}
+use Rattle.lists.proofs.Windows.{drop-next}
 use Rattle.scope.specs.Limits.{FILE_LIMIT}
 use Rattle.lines.specs.Values.{every, isDigit, isHexDigit, decimalFrom, decimal, isNumber, numberSound, spaceAt, spaceIn, labelIn, afterLabel, sizeIn, alignIn, ALIGN8_LIMIT, spanSound, sectionSound}
 
@@ -56,7 +56,7 @@ decimal-cons n x v = refl
 -- the turns of a loop along v
 pub decimal-next : (n : ℕ) (v : List ℕ) (i : ℕ) → i < length v
     → decimalFrom n (drop i v) ≡ decimalFrom (n * 10 + (getD v i 0 - 48)) (drop (i + 1) v)
-decimal-next n v i h = rw (drop-step v i h, decimal-cons)
+decimal-next n v i h = rw (drop-next v i 0 h, decimal-cons)
 
 pub decimal-end : (n : ℕ) (v : List ℕ) (i : ℕ) → length v ≤ i → decimalFrom n (drop i v) ≡ n
 unfolding decimalFrom
@@ -206,7 +206,7 @@ module _ (v : List ℕ) where
   pub label-split : spaceIn v < length v → v ≡ labelIn v ++ (32 ∷ afterLabel v)
   unfolding labelIn afterLabel
   label-split h =
-      let d : drop (spaceIn v) v ≡ 32 ∷ drop (spaceIn v + 1) v = rw (drop-step v (spaceIn v) h, space-here h) in
+      let d : drop (spaceIn v) v ≡ 32 ∷ drop (spaceIn v + 1) v = rw (drop-next v (spaceIn v) 0 h, space-here h) in
       sym (take-append-drop (spaceIn v) v) ∙ ap (λ (l : List ℕ). take (spaceIn v) v ++ l) d
 
   -- with no space there is nothing behind

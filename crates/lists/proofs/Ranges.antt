@@ -2,7 +2,7 @@
 -- changes each, what the result tells of the indices, and when two results are equal. Assumes nothing.
 use Prim.Native.Nat.{ℕ, zero, suc, min, _+_, _-_, _*_, _≤_, _<_}
 use mathlib.Core.Path.{_≡_, refl, sym, ap, _∙_}
-use mathlib.Core.Bool.{Bool, true, false, cond, _&&_, true≢false}
+use mathlib.Core.Bool.{Bool, true, false, cond, _&&_, _||_, true≢false}
 use mathlib.Core.List.{List, [], _∷_, _++_, append-nil, append-assoc}
 use native.Mathlib.Nat.{add-zero, add-suc, mul-zero, mul-suc, one-mul}
 use native.Mathlib.Numerals.{add-one}
@@ -31,6 +31,11 @@ and-parts false b e = (e, both e refl)
 
 pub and-true : (a b : Bool) → a ≡ true → b ≡ true → (a && b) ≡ true
 and-true a b e f = rw (e, f)
+
+-- neither of two tests
+pub or-parts : (a b : Bool) → (a || b) ≡ false → (a ≡ false) × (b ≡ false)
+or-parts true b f = both refl f
+or-parts false b f = (refl, f)
 
 -- by the order of two numbers
 pub by-lt {ℓ} : {A : Type ℓ} (a b : ℕ) → (a < b → A) → (b ≤ a → A) → A
@@ -244,6 +249,16 @@ module _ (p : ℕ → Bool) where
       (λ t. let l : k < count p n + 1 = rw t at h in (n, omega arith, t, omega arith))
       (λ t. let l : k < count p n = rw t at h in absurd (omega arith)))
 
+pub count-next : (p : ℕ → Bool) (n : ℕ) → count p (n + 1) ≡ count p n + cond (p n) 1 0
+count-next p n = by-test (p n) (λ t. rw (count-yes p n t, t)) (λ f. rw (count-no p n f, f) (sym (add-zero (count p n))))
+
+-- indices that do not pass are not counted
+pub count-skip : (p : ℕ → Bool) (a k : ℕ) → ((j : ℕ) → a ≤ j → j < a + k → p j ≡ false) → count p (a + k) ≡ count p a
+count-skip p a zero none = rw (add-zero a)
+count-skip p a (suc k) none =
+    let e : a + suc k ≡ a + k + 1 = omega arith in
+    rw (e, count-no p (a + k) (none (a + k) (omega arith) (omega arith))) (count-skip p a k (λ j l u. none j l (omega arith)))
+
 pub count-all : (n : ℕ) → count (λ i. true) n ≡ n
 unfolding count
 count-all zero = refl
@@ -347,9 +362,12 @@ module _ {A : Type 0} (p : ℕ → Bool) (f : ℕ → List A) where
     pub gather-at : (i n : ℕ) → i < n → p i ≡ true → take w (drop (w * count p i) (gather p f n)) ≡ f i
     gather-at i n h t = rw (← gather-length i, ← wide i t) (gather-window i n h t)
 
--- the length where every index passes
+-- the length where every index passes, and where each list has w elements
 pub gather-sum : {A : Type 0} (f : ℕ → List A) (n : ℕ) → length (gather (λ i. true) f n) ≡ sum (λ i. length (f i)) n
 gather-sum f n = gather-long (λ i. true) f n
+
+pub gather-all-length : {A : Type 0} (f : ℕ → List A) (w : ℕ) → ((i : ℕ) → length (f i) ≡ w) → (n : ℕ) → length (gather (λ i. true) f n) ≡ w * n
+gather-all-length f w wide n = gather-length (λ i. true) f w (λ i t. wide i) n ∙ ap (λ (k : ℕ). w * k) (count-all n)
 
 -- tests that agree below n, and lists that agree where they pass
 pub gather-same : {A : Type 0} (p q : ℕ → Bool) (f g : ℕ → List A) (n : ℕ)
@@ -411,6 +429,18 @@ module _ {A : Type 0} (p : ℕ → Bool) (f : ℕ → A) where
       let k : drop c t ≡ getD t c (f i) ∷ drop (c + 1) t = rw (add-one, drop-cons t c (f i)) in
       rw (e, k, select-yes i y, set-at (select p f i) (getD t c (f i)) (drop (c + 1) t) (f i) c (select-length i ∙ sym n))
       (sym (append-snoc (select p f i) (f i) (drop (c + 1) t)))
+
+-- where every index passes: as many as there are indices, each at its own
+module _ {A : Type 0} (f : ℕ → A) where
+  pub select-all-length : (n : ℕ) → length (select (λ i. true) f n) ≡ n
+  select-all-length n = select-length (λ i. true) f n ∙ count-all n
+
+  pub select-all-at : (k n : ℕ) (d : A) → k < n → getD (select (λ i. true) f n) k d ≡ f k
+  select-all-at k n d h = ap (λ (j : ℕ). getD (select (λ i. true) f n) j d) (sym (count-all k)) ∙ select-at (λ i. true) f k n d h refl
+
+  pub select-all-put : (t T : List A) (i : ℕ) → T ≡ select (λ j. true) f i ++ drop i t → i < length t
+      → set T i (f i) ≡ select (λ j. true) f (i + 1) ++ drop (i + 1) t
+  select-all-put t T i e h = select-put (λ j. true) f t T i i e (sym (count-all i)) h refl
 
 pub select-same : {A : Type 0} (p q : ℕ → Bool) (f g : ℕ → A) (n : ℕ)
     → ((i : ℕ) → i < n → p i ≡ q i) → ((i : ℕ) → i < n → p i ≡ true → f i ≡ g i) → select p f n ≡ select q g n

@@ -5,19 +5,15 @@ use mathlib.Core.Path.{_≡_, refl, sym, ap, _∙_}
 use mathlib.Core.Bool.{true, false, _&&_, and-assoc}
 use mathlib.Core.List.{List, [], _∷_, _++_}
 use native.Mathlib.Nat.{sub-zero}
-use native.Mathlib.Numerals.{add-one}
 use native.Mathlib.Omega.{arith}
 use lib.ListN.{length, take, drop, getD, length-append, length-drop, drop-of-length-le, take-append-drop, List·getD-append, List·getD-eq-default}
-use lib.Seq.{drop-cons, take-all, take-nil, take-append-le, take-append-seam, drop-append-le, drop-append-add, getD-append-add, getD-append-seam, getD-take, getD-drop, length-take-le}
+use lib.Seq.{take-all, take-nil, take-append-le, take-append-seam, drop-append-le, drop-append-add, getD-append-add, getD-append-seam, getD-take, getD-drop, length-take-le}
 use lib.Dec.{eqb, ltb}
 use borrow.Author.Tests.{eq-eqb, ne-eqb, eqb-true, eqb-false, lt-ltb, le-ltb, ltb-true, ltb-false}
 use Rattle.lists.specs.Ranges.{first, pastLast}
 use Rattle.lists.specs.Strings.{same, prefixed, zeroAt, nameEnd, hasEnd, nameAt, overAt, ascii}
 use Rattle.lists.proofs.Ranges.{by-test, both, by-lt, first-here, first-next, first-end, first-is, first-unique, first-low, first-high, first-none, none-first, first-more, first-ext, first-shift, first-past}
-
--- the list from i on: its first element, and the list from i + 1 on
-pub drop-step : (l : List ℕ) (i : ℕ) → i < length l → drop i l ≡ getD l i 0 ∷ drop (i + 1) l
-drop-step l i h = rw (add-one, drop-cons l i 0)
+use Rattle.lists.proofs.Windows.{drop-next}
 
 -- ---- equal byte strings
 
@@ -59,11 +55,11 @@ same-long a b d = same-ne a b (λ e. d (ap length e))
 module _ (a b : List ℕ) (i : ℕ) where
   pub same-next : i < length a → i < length b → getD a i 0 ≡ getD b i 0 → same (drop i a) (drop i b) ≡ same (drop (i + 1) a) (drop (i + 1) b)
   unfolding same
-  same-next h k e = rw (drop-step a i h, drop-step b i k, eq-eqb _ _ e)
+  same-next h k e = rw (drop-next a i 0 h, drop-next b i 0 k, eq-eqb _ _ e)
 
   pub same-not : i < length a → i < length b → (getD a i 0 ≡ getD b i 0 → ⊥) → same (drop i a) (drop i b) ≡ false
   unfolding same
-  same-not h k d = rw (drop-step a i h, drop-step b i k, ne-eqb _ _ d)
+  same-not h k d = rw (drop-next a i 0 h, drop-next b i 0 k, ne-eqb _ _ d)
 
   pub same-end : length a ≤ i → length b ≤ i → same (drop i a) (drop i b) ≡ true
   same-end h k = same-eq _ _ (drop-of-length-le a h ∙ sym (drop-of-length-le b k))
@@ -162,7 +158,7 @@ module _ (t : List ℕ) where
   unfolding nameAt
   name-cons at h z =
       let k : nameEnd t (at + 1) - at ≡ suc (nameEnd t (at + 1) - (at + 1)) = omega (arith, end-low (at + 1)) in
-      rw (end-next at h z, k, drop-step t at h)
+      rw (end-next at h z, k, drop-next t at 0 h)
 
   pub name-past : (at : ℕ) → length t ≤ at → nameAt t at ≡ []
   unfolding nameAt
@@ -179,6 +175,12 @@ module _ (t : List ℕ) where
   name-length at = by-lt (length t) at
       (λ h. let e = end-past at (omega arith) in ap length (name-past at (omega arith)) ∙ omega (arith, e))
       (λ h. length-take-le (nameEnd t at - at) (drop at t) (rw length-drop (omega (arith, end-high at h))))
+
+  -- no name is longer than its table
+  pub name-short : (at : ℕ) → length (nameAt t at) ≤ length t
+  name-short at = by-lt (length t) at
+      (λ h. rw (name-past at (omega arith)) (omega arith))
+      (λ h. omega (arith, name-length at, end-high at h))
 
   pub name-byte : (at i : ℕ) → i < length (nameAt t at) → getD (nameAt t at) i 0 ≡ getD t (at + i) 0
   unfolding nameAt
@@ -209,17 +211,17 @@ module _ (t s : List ℕ) (j i : ℕ) where
   pub name-is-next : j < length t → (getD t j 0 ≡ 0 → ⊥) → i < length s → getD t j 0 ≡ getD s i 0
       → same (nameAt t j) (drop i s) ≡ same (nameAt t (j + 1)) (drop (i + 1) s)
   unfolding same
-  name-is-next h z k e = rw (name-cons t j h z, drop-step s i k, eq-eqb _ _ e)
+  name-is-next h z k e = rw (name-cons t j h z, drop-next s i 0 k, eq-eqb _ _ e)
 
   pub name-is-not : j < length t → (getD t j 0 ≡ 0 → ⊥) → i < length s → (getD t j 0 ≡ getD s i 0 → ⊥)
       → same (nameAt t j) (drop i s) ≡ false
   unfolding same
-  name-is-not h z k d = rw (name-cons t j h z, drop-step s i k, ne-eqb _ _ d)
+  name-is-not h z k d = rw (name-cons t j h z, drop-next s i 0 k, ne-eqb _ _ d)
 
   -- the name ends first
   pub name-is-short : getD t j 0 ≡ 0 → i < length s → same (nameAt t j) (drop i s) ≡ false
   unfolding same
-  name-is-short z k = rw (name-nil t j z, drop-step s i k)
+  name-is-short z k = rw (name-nil t j z, drop-next s i 0 k)
 
   -- the string ends first, or both end
   pub name-is-end : length s ≤ i → same (nameAt t j) (drop i s) ≡ eqb (getD t j 0) 0

@@ -7,9 +7,10 @@ use Prim.Native.Nat.{ℕ, zero, suc, _+_, _-_, _≤_, _<_}
 use native.Mathlib.Nat.{zero-add, suc-add, add-zero}
 use native.Mathlib.Numerals.{add-one}
 use native.Mathlib.Omega.{arith}
-use lib.ListN.{length, take, drop, getD, set, length-append, length-drop, take-append-drop, List·getD-append}
-use lib.Seq.{take-nil, take-suc, drop-cons, drop-drop, drop-length, take-all, take-take, length-take-le, take-at, drop-at, take-append-seam, getD-append-add, getD-take, getD-drop, set-split}
+use lib.ListN.{length, take, drop, getD, set, length-append, length-take, length-drop, take-append-drop, List·getD-append}
+use lib.Seq.{ext-getD, take-nil, take-suc, drop-cons, drop-drop, drop-length, take-all, take-take, length-take-le, take-at, drop-at, take-append-seam, getD-append-add, getD-take, getD-drop, set-split}
 use Rattle.lists.specs.Windows.{Within, spliced}
+use Rattle.lists.proofs.Ranges.{by-lt}
 
 -- one element further, in the code's i + 1
 pub drop-next : {A : Type 0} (l : List A) (i : ℕ) (d : A) → i < length l → drop i l ≡ getD l i d ∷ drop (i + 1) l
@@ -34,6 +35,18 @@ part-of-part l o n k w h =
 -- a part has the length asked for
 pub length-part : {A : Type 0} (l : List A) (o w : ℕ) → o + w ≤ length l → length (take w (drop o l)) ≡ w
 length-part l o w h = length-take-le w (drop o l) (rw length-drop (omega arith))
+
+-- two parts that are as long are equal where their bytes are
+pub part-ext : (a b : List ℕ) (p q w : ℕ) → length (take w (drop p a)) ≡ length (take w (drop q b))
+    → ((j : ℕ) → j < w → getD a (p + j) 0 ≡ getD b (q + j) 0) → take w (drop p a) ≡ take w (drop q b)
+part-ext a b p q w e each = ext-getD 0 (take w (drop p a)) (take w (drop q b)) e (λ j h.
+    let u : j < w = omega (arith, rw (length-take w (drop p a)) at h) in
+    rw (getD-take w (drop p a) j 0 u, getD-take w (drop q b) j 0 u, getD-drop p a j 0, getD-drop q b j 0) (each j u))
+
+-- so are two that lie inside their lists
+pub part-same : (a b : List ℕ) (p q w : ℕ) → p + w ≤ length a → q + w ≤ length b
+    → ((j : ℕ) → j < w → getD a (p + j) 0 ≡ getD b (q + j) 0) → take w (drop p a) ≡ take w (drop q b)
+part-same a b p q w h k each = part-ext a b p q w (length-part a p w h ∙ sym (length-part b q w k)) each
 
 module _ (l : List ℕ) (o : ℕ) (b : List ℕ) (h : o + length b ≤ length l) where
   front-long : length (take o l) ≡ o
@@ -198,6 +211,59 @@ spliced-then l o a b p e h =
     ap (λ (j : ℕ). spliced (spliced l o a) j b) e
     ∙ parts (spliced l o a) q b
     ∙ rw (take-through l o a k, d, append-assoc, parts l o (a ++ b), append-assoc, n)
+
+-- a longer write over a write at the same place
+pub spliced-over : (l : List ℕ) (o : ℕ) (a b : List ℕ) → length a ≤ length b → o + length b ≤ length l → spliced (spliced l o a) o b ≡ spliced l o b
+unfolding spliced
+spliced-over l o a b h k =
+    let m = length b - length a in
+    let e : o + length b ≡ o + length a + m = omega arith in
+    let t : take o (spliced l o a) ≡ take o l = take-spliced l o a (omega arith) in
+    let d : drop (o + length b) (spliced l o a) ≡ drop (o + length b) l =
+    rw e (sym (drop-drop m (o + length a) (spliced l o a)) ∙ ap (drop m) (drop-spliced l o a (omega arith)) ∙ drop-drop m (o + length a) l) in
+    rw (t, d)
+
+-- two writes beside each other
+module _ (l : List ℕ) (o : ℕ) (a : List ℕ) (p : ℕ) (b : List ℕ) (apart : o + length a ≤ p) (room : p + length b ≤ length l) where
+  first-room : o + length a ≤ length (spliced l p b)
+  first-room = rw (length-spliced l p b room) (omega arith)
+
+  second-room : p + length b ≤ length (spliced l o a)
+  second-room = rw (length-spliced l o a (omega arith)) room
+
+  byte-same : (x : ℕ) → getD (spliced (spliced l p b) o a) x 0 ≡ getD (spliced (spliced l o a) p b) x 0
+  byte-same x = by-lt x o
+      (λ h.
+      spliced-before (spliced l p b) o a first-room x h
+      ∙ spliced-before l p b room x (omega arith)
+      ∙ sym (spliced-before (spliced l o a) p b second-room x (omega arith) ∙ spliced-before l o a (omega arith) x h))
+      (λ h. by-lt x (o + length a)
+      (λ g.
+      spliced-in (spliced l p b) o a first-room x h g
+      ∙ sym (spliced-before (spliced l o a) p b second-room x (omega arith) ∙ spliced-in l o a (omega arith) x h g))
+      (λ g. by-lt x p
+      (λ u.
+      spliced-after (spliced l p b) o a first-room x g
+      ∙ spliced-before l p b room x u
+      ∙ sym (spliced-before (spliced l o a) p b second-room x u ∙ spliced-after l o a (omega arith) x g))
+      (λ u. by-lt x (p + length b)
+      (λ v.
+      spliced-after (spliced l p b) o a first-room x g
+      ∙ spliced-in l p b room x u v
+      ∙ sym (spliced-in (spliced l o a) p b second-room x u v))
+      (λ v.
+      spliced-after (spliced l p b) o a first-room x g
+      ∙ spliced-after l p b room x v
+      ∙ sym (spliced-after (spliced l o a) p b second-room x v ∙ spliced-after l o a (omega arith) x g)))))
+
+  -- they may be made in either order
+  pub spliced-comm : spliced (spliced l p b) o a ≡ spliced (spliced l o a) p b
+  spliced-comm =
+      ext-getD 0 (spliced (spliced l p b) o a) (spliced (spliced l o a) p b)
+      (length-spliced (spliced l p b) o a first-room
+      ∙ length-spliced l p b room
+      ∙ sym (length-spliced (spliced l o a) p b second-room ∙ length-spliced l o a (omega arith)))
+      (λ x h. byte-same x)
 
 -- one byte stored
 pub spliced-one : (l : List ℕ) (o x : ℕ) → o < length l → set l o x ≡ spliced l o (x ∷ [])

@@ -1,4 +1,7 @@
 pub mod Ranges
+pub mod Rows
 pub mod Windows
+pub mod Written
 pub mod Records
+pub mod Pieces
 pub mod Strings

@@ -1,14 +1,14 @@
 -- What refusal 11 leaves true, derived from its definition: no code of C and none of A is at fault, so no cause of any code holds. Assumes nothing.
 use Prim.Native.Nat.{ℕ, _+_, _%_, _≤_, _<_}
 use mathlib.Core.Path.{_≡_, refl, sym, _∙_}
-use mathlib.Core.Bool.{Bool, true, false, not, _&&_, _||_}
+use mathlib.Core.Bool.{Bool, true, false, not, _&&_}
 use mathlib.Core.List.{List}
 use native.Mathlib.Omega.{arith}
 use lib.ListN.{length, take, drop}
 use lib.Dec.{eqb, leb}
 use borrow.Author.Tests.{lt-ltb, ltb-true, ltb-false, eq-eqb, eqb-true, le-leb}
 use Rattle.lists.specs.Ranges.{first}
-use Rattle.lists.proofs.Ranges.{by-test, both, by-lt, and-parts, first-high, first-to, none-first}
+use Rattle.lists.proofs.Ranges.{by-test, both, by-lt, and-parts, first-high, first-to, none-first, or-parts}
 use Rattle.fields.specs.declared.ByteOrder.{ByteOrder}
 use Rattle.places.specs.declared.Placing.the-variants.{Placed}
 use Rattle.places.specs.Spans.{spanSize, place}
@@ -22,10 +22,6 @@ use Rattle.missing.specs.declared.Missing.the-variants.{Nothing, InCompi
 use Rattle.missing.specs.Needed.{hasCode, heldBytes, targetCode, goesTo, isTarget, hasSpan, passes, isUneven, hasUneven, overruns, wantedC, missingC, wantedA, missingA, missing}
 use Rattle.missing.specs.Complete.{There, Holds, Complete}
 use Rattle.missing.proofs.Needed.{answer-compiled, answer-assembled, target-here}
-
-or-parts : (a b : Bool) → (a || b) ≡ false → (a ≡ false) × (b ≡ false)
-or-parts true b f = both refl f
-or-parts false b f = (refl, f)
 
 and-off : (a b : Bool) → (a && b) ≡ false → a ≡ true → b ≡ false
 and-off a b f t = rw t at f

@@ -9,16 +9,16 @@ use native.Mathlib.Omega.{arith}
 use lib.ListN.{length, drop, getD, length-drop}
 use lib.Seq.{ext-getD, getD-drop}
 use Rattle.lists.proofs.Ranges.{by-lt}
+use Rattle.lists.specs.Rows.{rowIn, columnIn}
+use Rattle.lists.proofs.Rows.{row-same, column-same, has-row-same}
 use Rattle.fields.specs.declared.ByteOrder.{ByteOrder}
 use Rattle.blocks.specs.Blocks.{blockCount}
 use Rattle.places.specs.Spans.{endAt}
 use Rattle.block_values.specs.BlockValues.{dummyCount, dummyWord}
 use Rattle.dummies.specs.Dummies.{found, shifts, placed, isLost}
 use Rattle.dummies.proofs.Dummies.{word-agree, found-agree, found-low}
-use Rattle.moves.specs.Rows.{rowIn, columnIn}
 use Rattle.moves.specs.Moves.{isDummy, firstOfMany, itemLength, itemPlace, itemFault, items, lateFrom, lastPlace, place, isFaulty, lateFault, isShifted}
 use Rattle.moves.specs.Moved.{tableWord, isJumpWord, covers, zeroes, movedBlock, movedItem, placeOf, movedPlace, offsetOf, coveredBy, lateByte, lateRodata}
-use Rattle.moves.proofs.Rows.{row-same, column-same, has-row-same}
 use Rattle.moves.proofs.Moved.{length-late, late-at}
 use Rattle.moves.proofs.Moves.{place-dummy, place-table, fault-dummy, fault-table, late-zero, late-next, last-zero, last-next, last-past}
 

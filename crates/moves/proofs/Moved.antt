@@ -6,20 +6,19 @@ use mathlib.Core.Logic.{_⊎_, ⊎-elim}
 use mathlib.Core.Bool.{true, false}
 use mathlib.Core.List.{List}
 use native.Mathlib.Omega.{arith}
-use lib.ListN.{length, take, drop, getD, length-drop}
-use lib.Seq.{ext-getD, getD-take, getD-drop, length-take-le}
+use lib.ListN.{length, take, drop, getD}
 use lib.Dec.{eqb, leb}
 use borrow.Author.Tests.{lt-ltb, le-leb, lt-leb, ltb-true, leb-true, eq-eqb, eqb-true}
-use Rattle.lists.specs.Ranges.{select}
-use Rattle.lists.proofs.Ranges.{by-test, and-parts, and-true, count-all, select-at, select-length}
+use Rattle.lists.proofs.Ranges.{by-test, and-parts, and-true, select-all-at, select-all-length}
+use Rattle.lists.proofs.Windows.{part-same}
+use Rattle.lists.proofs.Rows.{Hit, row-yes, row-none, row-hit, row-is, Before, by-order}
 use Rattle.fields.specs.declared.ByteOrder.{ByteOrder}
 use Rattle.blocks.specs.Blocks.{blockCount}
 use Rattle.places.specs.Spans.{live, endAt}
 use Rattle.block_values.specs.BlockValues.{dummyCount, jumpTable}
 use Rattle.moves.specs.Moves.{itemLength, items, source, lastPlace, place, lateFault, isShifted}
 use Rattle.moves.specs.Moved.{isIn, isWord, tableWord, isJumpWord, covers, zeroes, starts, isMoved, movedBlock, movedItem, placeOf, movedPlace, offsetOf, coveredBy, lateByte, lateRodata}
-use Rattle.moves.proofs.Rows.{Hit, row-yes, row-none, row-hit, row-is}
-use Rattle.moves.proofs.Moves.{length-table, items-live, item-live, Before, by-order, sources-ascend, search-past, places-ascend, last-past, place-past, shifted-low, place-inside}
+use Rattle.moves.proofs.Moves.{length-table, items-live, item-live, sources-ascend, search-past, places-ascend, last-past, place-past, shifted-low, place-inside}
 
 -- ---- ranges
 
@@ -49,16 +48,6 @@ word-in a n x t = in-parts a n x (and-parts (isIn a n x) _ t .0)
 pub word-fourth : (a n x : ℕ) → isWord a n x ≡ true → (x - a) % 4 ≡ 0
 unfolding isWord
 word-fourth a n x t = eqb-true _ _ (and-parts (isIn a n x) _ t .1)
-
--- two parts of one length are equal where their bytes are
-pub part-same : (a b : List ℕ) (p q w : ℕ) → p + w ≤ length a → q + w ≤ length b
-    → ((j : ℕ) → j < w → getD a (p + j) 0 ≡ getD b (q + j) 0) → take w (drop p a) ≡ take w (drop q b)
-part-same a b p q w h k e =
-    let m : length (take w (drop p a)) ≡ w = length-take-le w (drop p a) (rw length-drop (omega arith)) in
-    let n : length (take w (drop q b)) ≡ w = length-take-le w (drop q b) (rw length-drop (omega arith)) in
-    ext-getD 0 (take w (drop p a)) (take w (drop q b)) (m ∙ sym n) (λ j l.
-    let u : j < w = rw m at l in
-    rw (getD-take w (drop p a) j 0 u, getD-take w (drop q b) j 0 u, getD-drop p a j 0, getD-drop q b j 0) (e j u))
 
 module _ (o : ByteOrder) (C B R : List ℕ) where
   -- ---- moves over .rodata
@@ -223,13 +212,11 @@ module _ (o : ByteOrder) (C B R : List ℕ) where
     module _ (L : List ℕ) where
       pub length-late : length (lateRodata o C B R s L) ≡ length R
       unfolding lateRodata
-      length-late = select-length (λ x. true) (lateByte o C B R s L) (length R) ∙ count-all (length R)
+      length-late = select-all-length (lateByte o C B R s L) (length R)
 
       pub late-at : (x : ℕ) → x < length R → getD (lateRodata o C B R s L) x 0 ≡ lateByte o C B R s L x
       unfolding lateRodata
-      late-at x h =
-          ap (λ (j : ℕ). getD (select (λ i. true) (lateByte o C B R s L) (length R)) j 0) (sym (count-all x))
-          ∙ select-at (λ i. true) (lateByte o C B R s L) x (length R) 0 h refl
+      late-at x h = select-all-at (lateByte o C B R s L) x (length R) 0 h
 
       -- byte x, in each of its three cases
       pub covered-byte : (x i k : ℕ) → i < blockCount B → k < items o C B i → covers o C B R x i k ≡ true

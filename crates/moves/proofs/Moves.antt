@@ -3,7 +3,7 @@
 -- Assumes nothing.
 use Prim.Native.Nat.{ℕ, zero, suc, _+_, _*_, _≤_, _<_}
 use mathlib.Core.Path.{_≡_, refl, sym, _∙_}
-use mathlib.Core.Logic.{_⊎_, inl, inr, ⊎-elim}
+use mathlib.Core.Logic.{⊎-elim}
 use mathlib.Core.Bool.{true, false, _&&_, _||_}
 use mathlib.Core.List.{List}
 use native.Mathlib.Nat.{add-zero}
@@ -13,15 +13,15 @@ use lib.ListN.{length}
 use lib.Dec.{eqb, ltb}
 use borrow.Author.Tests.{lt-ltb, le-ltb}
 use Rattle.lists.proofs.Ranges.{by-test, by-lt, both, and-parts, first-is, sum-zero, sum-next, sum-mono}
+use Rattle.lists.specs.Rows.{hasIndex, rowIn}
+use Rattle.lists.proofs.Rows.{index-yes, Before}
 use Rattle.fields.specs.declared.ByteOrder.{ByteOrder}
 use Rattle.blocks.specs.Blocks.{blockCount}
 use Rattle.places.specs.Spans.{live, endAt}
 use Rattle.block_values.specs.BlockValues.{dummyCount, dummyWord, jumpTable, lateBytes}
 use Rattle.dummies.specs.Dummies.{found, shifts, placed, isLost}
 use Rattle.dummies.proofs.Dummies.{found-low, placed-past, placed-fits, placed-shifted}
-use Rattle.moves.specs.Rows.{hasIndex, rowIn}
 use Rattle.moves.specs.Moves.{isDummy, firstOfMany, itemLength, itemPlace, itemFault, lastFrom, items, lateSource, source, lateFrom, lastPlace, place, isFaulty, lateFault, isShifted}
-use Rattle.moves.proofs.Rows.{index-yes}
 
 -- ---- one item
 
@@ -154,21 +154,6 @@ module _ (o : ByteOrder) (C B : List ℕ) where
         (λ l. let q : k ≡ dummyCount B i = omega (arith, item-index i k h) in rw q (omega arith))
 
 -- ---- the order of items
-
--- item k of block i comes before item l of block j
-abbrev pub Before : ℕ → ℕ → ℕ → ℕ → Type 0
-Before i k j l = (i < j) ⊎ ((i ≡ j) × (k < l))
-
-pub by-order {ℓ} : {A : Type ℓ} (i k j l : ℕ) → (Before i k j l → A) → (Before j l i k → A) → (i ≡ j → k ≡ l → A) → A
-by-order i k j l before after equal = by-lt i j
-    (λ h. before (inl h))
-    (λ h. by-lt j i
-    (λ g. after (inl g))
-    (λ g.
-    let e : i ≡ j = omega arith in
-    by-lt k l
-    (λ u. before (inr (e, u)))
-    (λ u. by-lt l k (λ v. after (inr (sym e, v))) (λ v. equal e (omega arith)))))
 
 module _ (o : ByteOrder) (C B : List ℕ) (s : ℕ) where
   -- sources ascend and never overlap

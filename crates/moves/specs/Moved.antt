@@ -6,10 +6,10 @@ use mathlib.Core.List.{List}
 use lib.ListN.{length, getD}
 use lib.Dec.{eqb, leb, ltb}
 use Rattle.lists.specs.Ranges.{select}
+use Rattle.lists.specs.Rows.{rowIn, columnIn, hasRow}
 use Rattle.fields.specs.declared.ByteOrder.{ByteOrder}
 use Rattle.blocks.specs.Blocks.{blockCount}
 use Rattle.block_values.specs.BlockValues.{dummyCount}
-use Rattle.moves.specs.Rows.{rowIn, columnIn, hasRow}
 use Rattle.moves.specs.Moves.{items, itemLength, source, place, isShifted}
 
 -- x is one of the n bytes from a on

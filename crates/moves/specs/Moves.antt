@@ -6,12 +6,12 @@ use mathlib.Core.List.{List}
 use lib.ListN.{length}
 use lib.Dec.{eqb, ltb}
 use Rattle.lists.specs.Ranges.{sum}
+use Rattle.lists.specs.Rows.{rowIn}
 use Rattle.fields.specs.declared.ByteOrder.{ByteOrder}
 use Rattle.blocks.specs.Blocks.{blockCount}
 use Rattle.places.specs.Spans.{live, endAt}
 use Rattle.block_values.specs.BlockValues.{dummyCount, dummyWord, jumpTable, lateBytes}
 use Rattle.dummies.specs.Dummies.{shifts, placed, isLost}
-use Rattle.moves.specs.Rows.{rowIn}
 
 module _ (B : List ℕ) where
   unfoldable pub isDummy : ℕ → ℕ → Bool

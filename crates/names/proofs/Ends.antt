@@ -16,7 +16,6 @@ and-none : (a b : Bool) → b ≡ false → (a && b) ≡ false
 and-none true b e = e
 and-none false b e = refl
 
-
 module _ (t : List ℕ) (at : ℕ) (s : List ℕ) where
   -- the tests, one by one
   pub ends-none : length s ≡ 0 → false ≡ endsApart t at s

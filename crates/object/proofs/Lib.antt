@@ -1,2 +1,3 @@
 pub mod Object
 pub mod Sound
+pub mod Order

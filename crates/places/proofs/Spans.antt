@@ -2,7 +2,7 @@
 -- lines are sound, so a label has a size and an align8; a line is reached where no earlier one of its block lacks its symbol. Assumes nothing.
 use Prim.Native.Nat.{ℕ, _+_, _-_, _*_, _/_, _%_, _≤_, _<_}
 use mathlib.Core.Path.{_≡_, refl, sym, ap, _∙_}
-use mathlib.Core.Bool.{Bool, true, false, not, _&&_, _||_}
+use mathlib.Core.Bool.{true, false, not, _&&_, _||_, and-false}
 use mathlib.Core.List.{List, _++_}
 use native.Mathlib.Numerals.{add-one}
 use native.Mathlib.Omega.{arith}
@@ -111,10 +111,6 @@ module _ (B : List ℕ) where
   label-read j v l e f = f ∙ ap labelIn e
 
 -- ---- lines that are reached and taken
-
-and-no : (a : Bool) → (a && false) ≡ false
-and-no true = refl
-and-no false = refl
 
 module _ (o : ByteOrder) (C B : List ℕ) where
   pub symbol-read : (j k : ℕ) (l : List ℕ) → l ≡ spanLabel B j → k ≡ symbolNamed o C l → k ≡ labelSymbol o C B j
@@ -274,7 +270,7 @@ module _ (o : ByteOrder) (C B : List ℕ) where
   end-same j c f = rw (add-one j, f)
 
   pub end-other : (j c : ℕ) → (spanCode j ≡ c → ⊥) → endAt o C B (j + 1) c ≡ endAt o C B j c
-  end-other j c d = end-same j c (rw (ne-eqb _ _ d) (and-no (taken o C B j)))
+  end-other j c d = end-same j c (rw (ne-eqb _ _ d) (and-false (taken o C B j)))
 
   pub end-off : (j c : ℕ) → taken o C B j ≡ false → endAt o C B (j + 1) c ≡ endAt o C B j c
   end-off j c f = end-same j c (rw f)

@@ -14,7 +14,7 @@ use borrow.Author.Tests.{lt-ltb, le-ltb, eqb-true, eqb-false, ltb-false, not-fal
 use Rattle.lists.specs.Ranges.{first}
 use Rattle.lists.specs.Windows.{Within, spliced}
 use Rattle.lists.specs.Records.{flat}
-use Rattle.lists.proofs.Ranges.{by-test, both, by-lt, and-parts, first-here, first-next, first-end, first-high, none-first, count-all, gather-zero, gather-yes, gather-length, gather-split}
+use Rattle.lists.proofs.Ranges.{by-test, both, by-lt, and-parts, first-here, first-next, first-end, first-high, none-first, gather-zero, gather-yes, gather-split, or-parts, gather-all-length}
 use Rattle.lists.proofs.Windows.{within-at, within-second, within-head, within-within, within-fits, within-spliced, length-spliced, spliced-nil, spliced-then}
 use Rattle.lists.proofs.Records.{length-flat, within-flat}
 use Rattle.fields.specs.declared.ByteOrder.{ByteOrder}
@@ -42,7 +42,7 @@ module _ (o : ByteOrder) (C B : List ℕ) where
 
   pub length-place-table : (n : ℕ) → length (placeTable o C B n) ≡ 8 * n
   unfolding placeTable
-  length-place-table n = gather-length (λ i. true) (placeRow o C B) 8 (λ i t. length-place-row i) n ∙ ap (λ (k : ℕ). 8 * k) (count-all n)
+  length-place-table n = gather-all-length (placeRow o C B) 8 length-place-row n
 
   pub place-table-zero : placeTable o C B 0 ≡ []
   unfolding placeTable
@@ -348,10 +348,6 @@ pub record Spanned (o : ByteOrder) (C B : List ℕ) (j : ℕ) : Type 0 where
   pub sized : 0 < spanSize B j
   pub behind : endAt o C B j (spanCode j) ≤ place o C B j
   pub aligned : (spanAlign8 B j ≡ 0) ⊎ (spanAlign8 B j ≡ 8 - place o C B j % 8)
-
-or-parts : (a b : Bool) → (a || b) ≡ false → (a ≡ false) × (b ≡ false)
-or-parts true b f = both refl f
-or-parts false b f = (refl, f)
 
 odd-no : (p a : ℕ) → oddPlace p a ≡ false → (a ≡ 0) ⊎ (a ≡ 8 - p % 8)
 unfolding oddPlace

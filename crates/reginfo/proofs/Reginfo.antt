@@ -1,7 +1,6 @@
 -- The laws of a joined .reginfo: its length and its bytes. Assumes nothing.
 use Prim.Native.Nat.{ℕ, _+_, _≤_, _<_}
 use mathlib.Core.Path.{_≡_, refl, sym, ap, _∙_}
-use mathlib.Core.Bool.{true}
 use mathlib.Core.List.{List, [], _∷_}
 use native.Mathlib.Omega.{arith}
 use lib.ListN.{length, getD, take, set}
@@ -9,20 +8,18 @@ use lib.Seq.{take-all}
 use borrow.Author.Tests.{lt-ltb, le-ltb}
 use Rattle.lists.specs.Ranges.{gather, select}
 use Rattle.lists.specs.Windows.{spliced}
-use Rattle.lists.proofs.Ranges.{count-all, select-length, select-at}
 use Rattle.lists.proofs.Windows.{spliced-nil, spliced-copy}
+use Rattle.lists.proofs.Ranges.{select-all-at, select-all-length}
 use Rattle.reginfo.specs.Reginfo.{orByte, joinedByte, joined}
 
 module _ (C A : List ℕ) where
   pub length-joined : length (joined C A) ≡ length C
   unfolding joined
-  length-joined = select-length (λ k. true) (joinedByte C A) (length C) ∙ count-all (length C)
+  length-joined = select-all-length (joinedByte C A) (length C)
 
   pub joined-at : (k : ℕ) → k < length C → getD (joined C A) k 0 ≡ joinedByte C A k
   unfolding joined
-  joined-at k h =
-      ap (λ (i : ℕ). getD (select (λ k. true) (joinedByte C A) (length C)) i 0) (sym (count-all k))
-      ∙ select-at (λ k. true) (joinedByte C A) k (length C) 0 h refl
+  joined-at k h = select-all-at (joinedByte C A) k (length C) 0 h
 
   -- over the shorter length, and behind A's end
   pub byte-both : (k : ℕ) → k < length A → orByte (getD C k 0) (getD A k 0) ≡ joinedByte C A k

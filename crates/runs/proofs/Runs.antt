@@ -10,7 +10,8 @@ use borrow.Author.Tests.{lt-ltb, le-ltb}
 use Rattle.lists.specs.Windows.{spliced}
 use Rattle.lists.specs.Records.{flat}
 use Rattle.lists.proofs.Ranges.{both, by-lt}
-use Rattle.lists.proofs.Windows.{length-part}
+use Rattle.lists.proofs.Windows.{part-same}
+use Rattle.lists.proofs.Pieces.{pieces-whole}
 use Rattle.fields.specs.declared.ByteOrder.{ByteOrder}
 use Rattle.places.specs.declared.Placing.the-variants.{Placed}
 use Rattle.places.specs.Walk.{placing}
@@ -18,12 +19,11 @@ use Rattle.spans.specs.declared.NextSpan.{NextSpan}
 use Rattle.spans.specs.declared.NextSpan.the-variants.{NoSpan, Span}
 use Rattle.spans.specs.Spans.{coded, lineCount, spanEnd, isCovered, copiedByte, copied}
 use Rattle.spans.specs.Table.{spanFrom, nextSpan}
-use Rattle.spans.proofs.Spans.{part-same, length-copied, copied-at}
+use Rattle.spans.proofs.Spans.{length-copied, copied-at}
 use Rattle.spans.proofs.Table.{told-none, told-span, from-span, from-end, from-before, from-none, from-over, from-gap}
 use Rattle.runs.specs.declared.Run.{Run}
 use Rattle.runs.specs.declared.Run.the-variants.{Compiled, Assembled}
 use Rattle.runs.specs.Runs.{runFrom, runLength, runSource, runBytes, runBy, runAt, runs, EndsBy}
-use Rattle.runs.proofs.Pieces.{pieces-whole}
 
 by-next {ℓ} : {A : Type ℓ} (s : NextSpan) → (s ≡ NoSpan → A) → ((x y : ℕ) → s ≡ Span x y → A) → A
 by-next NoSpan none some = none refl
@@ -168,8 +168,7 @@ module _ (o : ByteOrder) (C A B : List ℕ) (p : placing o C B ≡ Placed) (c : 
         let f : k + runLength r ≤ length (runSource (coded o C c) (coded o A c) r) =
         source-fits (coded o C c) (coded o A c) (k + runLength r) r (omega (arith, w .inside)) (w .ended (length (coded o A c)) source) in
         let g : k + runLength r ≤ length (copied o C A B c) = rw (length-copied o C A B c) (omega (arith, w .inside)) in
-        rw (w .from) (part-same (runSource (coded o C c) (coded o A c) r) (copied o C A B c) k (runLength r)
-        (length-part (runSource (coded o C c) (coded o A c) r) k (runLength r) f ∙ sym (length-part (copied o C A B c) k (runLength r) g))
+        rw (w .from) (part-same (runSource (coded o C c) (coded o A c) r) (copied o C A B c) k k (runLength r) f g
         (λ i l. run-byte i l ∙ sym (copied-at o C A B c (k + i) (omega (arith, w .inside)))))
 
   -- the runs of a section, one behind the other, are the section after block copying

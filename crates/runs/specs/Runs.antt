@@ -6,12 +6,12 @@ use mathlib.Core.Bool.{Bool, true, false}
 use mathlib.Core.List.{List}
 use lib.ListN.{take, drop}
 use lib.Dec.{ltb}
+use Rattle.lists.specs.Pieces.{piecesFrom}
 use Rattle.fields.specs.declared.ByteOrder.{ByteOrder}
 use Rattle.spans.specs.declared.NextSpan.{NextSpan}
 use Rattle.spans.specs.declared.NextSpan.the-variants.{NoSpan, Span}
 use Rattle.spans.specs.Spans.{lineCount, isSpan, spanEnd}
 use Rattle.spans.specs.Table.{nextSpan}
-use Rattle.runs.specs.Pieces.{piecesFrom}
 use Rattle.runs.specs.declared.Run.{Run}
 use Rattle.runs.specs.declared.Run.the-variants.{Compiled, Assembled}
 

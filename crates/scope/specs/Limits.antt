@@ -1,5 +1,7 @@
--- The limits of document 01, each written once.
-use Prim.Native.Nat.{ℕ}
+-- The limits of document 01, each written once, and refusal 1, which asks them.
+use Prim.Native.Nat.{ℕ, _≤_}
+use mathlib.Core.Bool.{Bool, _||_}
+use lib.Dec.{ltb}
 
 -- bytes of C, A, prelude or block file; also the largest number of the block file
 abbrev pub FILE_LIMIT : ℕ
@@ -32,3 +34,24 @@ BLOCK_TABLE = 49152
 
 abbrev pub PLACE_TABLE : ℕ
 PLACE_TABLE = 32768
+
+-- 1,025 rows of 12 bytes for the late step of 1,024 blocks, and a place of 4 for each of up to 69,905 dummies
+abbrev pub LATE_TABLE : ℕ
+LATE_TABLE = 291920
+
+-- rows of 8 bytes for the 1,024 spans of a section
+abbrev pub SPAN_TABLE : ℕ
+SPAN_TABLE = 8192
+
+-- refusal 1: C, the file beside it (a draft's prelude, a merge's A) or the block file over the limit, or a working buffer below its constant
+unfoldable pub overLimits : ℕ → ℕ → ℕ → ℕ → ℕ → Bool
+overLimits compiled beside blocks table places =
+    ltb FILE_LIMIT compiled || (ltb FILE_LIMIT beside || (ltb FILE_LIMIT blocks || (ltb table BLOCK_TABLE || ltb places PLACE_TABLE)))
+
+-- it has passed
+pub record InLimits (compiled beside blocks table places : ℕ) : Type 0 where
+  pub compiled-limit : compiled ≤ FILE_LIMIT
+  pub beside-limit : beside ≤ FILE_LIMIT
+  pub blocks-limit : blocks ≤ FILE_LIMIT
+  pub table-size : BLOCK_TABLE ≤ table
+  pub places-size : PLACE_TABLE ≤ places

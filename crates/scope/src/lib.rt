@@ -102,6 +102,10 @@ pub const BLOCK_TABLE: usize = 49152;
 
 pub const PLACE_TABLE: usize = 32768;
 
+pub const LATE_TABLE: usize = 291920;
+
+pub const SPAN_TABLE: usize = 8192;
+
 // What the test of a refusal number finds: nothing at fault, or the place that is reported.
 pub enum Finding {
     Clear,

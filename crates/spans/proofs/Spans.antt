@@ -8,12 +8,12 @@ use mathlib.Core.Bool.{true, false}
 use mathlib.Core.List.{List, []}
 use native.Mathlib.Omega.{arith}
 use lib.ListN.{length, take, drop, getD, length-take, length-drop, List·getD-eq-default}
-use lib.Seq.{ext-getD, getD-take, getD-drop}
+use lib.Seq.{ext-getD, getD-drop}
 use lib.Dec.{leb}
 use borrow.Author.Tests.{lt-ltb, le-ltb, ltb-true, eq-eqb, eqb-true, le-leb, leb-true}
-use Rattle.lists.specs.Ranges.{first, select}
-use Rattle.lists.proofs.Ranges.{by-test, both, by-lt, and-parts, and-true, first-is, first-none, first-high, first-to, count-all, select-zero, select-length, select-at}
-use Rattle.lists.proofs.Windows.{length-part}
+use Rattle.lists.specs.Ranges.{first}
+use Rattle.lists.proofs.Ranges.{by-test, both, by-lt, and-parts, and-true, first-is, first-none, first-high, first-to, select-zero, select-all-length, select-all-at}
+use Rattle.lists.proofs.Windows.{part-ext, part-same}
 use Rattle.fields.specs.declared.ByteOrder.{ByteOrder}
 use Rattle.scope.specs.Elf.{SHT_NOBITS}
 use Rattle.elf.specs.Readers.{section, codedSection}
@@ -23,18 +23,6 @@ use Rattle.places.specs.Spans.{spanCode, taken, place}
 use Rattle.places.specs.Walk.{placing}
 use Rattle.places.proofs.Walk.{placed-facts, ends-ascend, span-below}
 use Rattle.spans.specs.Spans.{coded, lineCount, isSpan, spanEnd, covers, spanOver, isCovered, lastEnd, copiedByte, copied}
-
--- ---- parts of two lists
-
--- lists that are as long and agree byte by byte
-pub part-same : (a b : List ℕ) (k w : ℕ) → length (take w (drop k a)) ≡ length (take w (drop k b))
-    → ((i : ℕ) → i < w → getD a (k + i) 0 ≡ getD b (k + i) 0) → take w (drop k a) ≡ take w (drop k b)
-part-same a b k w e each = ext-getD 0 (take w (drop k a)) (take w (drop k b)) e (λ i h.
-    let u : i < w = omega (arith, rw (length-take w (drop k a)) at h) in
-    getD-take w (drop k a) i 0 u ∙ getD-drop k a i 0 ∙ each i u ∙ sym (getD-drop k b i 0) ∙ sym (getD-take w (drop k b) i 0 u))
-
-part-long : (a b : List ℕ) (k w : ℕ) → length a ≡ length b → length (take w (drop k a)) ≡ length (take w (drop k b))
-part-long a b k w e = rw (length-take w (drop k a), length-take w (drop k b), length-drop k a, length-drop k b, e)
 
 -- ---- spans
 
@@ -166,13 +154,11 @@ coded-none o F c e = sym (contents-none o F (codedSection o F c) (section o F (c
 module _ (o : ByteOrder) (C A B : List ℕ) (c : ℕ) where
   pub length-copied : length (copied o C A B c) ≡ length (coded o C c)
   unfolding copied
-  length-copied = select-length (λ k. true) (copiedByte o C A B c) (length (coded o C c)) ∙ count-all (length (coded o C c))
+  length-copied = select-all-length (copiedByte o C A B c) (length (coded o C c))
 
   pub copied-at : (k : ℕ) → k < length (coded o C c) → getD (copied o C A B c) k 0 ≡ copiedByte o C A B c k
   unfolding copied
-  copied-at k h =
-      ap (λ (i : ℕ). getD (select (λ k. true) (copiedByte o C A B c) (length (coded o C c))) i 0) (sym (count-all k))
-      ∙ select-at (λ k. true) (copiedByte o C A B c) k (length (coded o C c)) 0 h refl
+  copied-at k h = select-all-at (copiedByte o C A B c) k (length (coded o C c)) 0 h
 
   past : (l : List ℕ) (k : ℕ) → length l ≤ k → getD l k 0 ≡ 0
   past l k h = List·getD-eq-default l 0 h
@@ -192,7 +178,8 @@ module _ (o : ByteOrder) (C A B : List ℕ) (c : ℕ) where
   -- w bytes that no span meets are C's
   pub copied-outside : (k w : ℕ) → ((j : ℕ) → j < lineCount B → isSpan o C B c j ≡ true → (spanEnd o C B j ≤ k) ⊎ (k + w ≤ place o C B j))
       → take w (drop k (copied o C A B c)) ≡ take w (drop k (coded o C c))
-  copied-outside k w out = part-same (copied o C A B c) (coded o C c) k w (part-long (copied o C A B c) (coded o C c) k w length-copied)
+  copied-outside k w out = part-ext (copied o C A B c) (coded o C c) k k w
+      (rw (length-take w (drop k (copied o C A B c)), length-take w (drop k (coded o C c)), length-drop, length-drop, length-copied))
       (λ i h. copied-compiled (k + i) (covered-none o C B c (k + i) (λ j l. by-test (isSpan o C B c j)
       (λ t. covers-not o C B c (k + i) j t (⊎-elim (λ (e : spanEnd o C B j ≤ k). inl (omega arith)) (λ (e : k + w ≤ place o C B j). inr (omega arith)) (out j l t)))
       (covers-other o C B c (k + i) j))))
@@ -201,8 +188,7 @@ module _ (o : ByteOrder) (C A B : List ℕ) (c : ℕ) where
   pub copied-under : (k w j : ℕ) → j < lineCount B → isSpan o C B c j ≡ true → place o C B j ≤ k → k + w ≤ spanEnd o C B j
       → spanEnd o C B j ≤ length (coded o C c) → spanEnd o C B j ≤ length (coded o A c)
       → take w (drop k (copied o C A B c)) ≡ take w (drop k (coded o A c))
-  copied-under k w j h t l u inC inA = part-same (copied o C A B c) (coded o A c) k w
-      (length-part (copied o C A B c) k w (rw length-copied (omega arith)) ∙ sym (length-part (coded o A c) k w (omega arith)))
+  copied-under k w j h t l u inC inA = part-same (copied o C A B c) (coded o A c) k k w (rw length-copied (omega arith)) (omega arith)
       (λ i g. copied-assembled (k + i) (omega arith) (covered-by o C B c (k + i) j h (covers-of o C B c (k + i) j t (omega arith) (omega arith))))
 
   -- from the end of the last span on, block copying changes nothing: what is searched there may be C's own bytes

@@ -3,7 +3,7 @@
 use Prim.Native.Nat.{ℕ, zero, suc, _+_, _-_, _*_, _/_, _%_, _≤_, _<_}
 use mathlib.Core.Path.{_≡_, refl, sym, ap, _∙_}
 use mathlib.Core.Logic.{inl, inr}
-use mathlib.Core.Bool.{Bool, true, false, cond, _&&_}
+use mathlib.Core.Bool.{true, false, cond, _&&_}
 use mathlib.Core.List.{List, [], _∷_, _++_, append-nil}
 use native.Mathlib.Omega.{arith}
 use lib.ListN.{length, getD}
@@ -13,6 +13,7 @@ use Rattle.lists.specs.Ranges.{first, count, pickList, IsFirst}
 use Rattle.lists.specs.Windows.{Within, spliced}
 use Rattle.lists.specs.Records.{flat}
 use Rattle.lists.proofs.Ranges.{by-test, both, by-lt, and-parts, and-true, first-is, first-none, first-to, first-unique, count-yes, count-no, count-lt, count-hit, count-zero, count-none, gather-zero, gather-yes, gather-no, gather-length, gather-split}
+use Rattle.lists.proofs.Halves.{GoesOn}
 use Rattle.lists.proofs.Windows.{within-at, within-second, within-head, within-within, within-fits, within-spliced, length-spliced, spliced-nil, spliced-then}
 use Rattle.lists.proofs.Records.{length-flat, within-flat}
 use Rattle.fields.specs.declared.ByteOrder.{ByteOrder}
@@ -235,39 +236,9 @@ module _ (o : ByteOrder) (C B : List ℕ) (c n : ℕ) (table : List ℕ) (w : Ro
 
 -- ---- search by halves
 
--- every index below `low` fails the test, and every one from `high` on passes
-pub record Halving (p : ℕ → Bool) (n low high : ℕ) : Type 0 where
-  pub order : low ≤ high
-  pub inside : high ≤ n
-  pub below : (j : ℕ) → j < low → p j ≡ false
-  pub above : (j : ℕ) → high ≤ j → j < n → p j ≡ true
-
-pub halving-none : (p : ℕ → Bool) (n : ℕ) → Halving p n 0 n
-halving-none p n = record { order = omega arith; inside = omega arith; below = λ j h. absurd (omega arith); above = λ j l h. absurd (omega arith) }
-
--- where the test goes on holding once it holds
-module _ (p : ℕ → Bool) (n : ℕ) (goes-on : (i j : ℕ) → i ≤ j → j < n → p i ≡ true → p j ≡ true) (low high : ℕ) (w : Halving p n low high) where
-  pub halving-down : (mid : ℕ) → low ≤ mid → mid < high → p mid ≡ true → Halving p n low mid
-  halving-down mid l u t = record { order = l; inside = omega (arith, w .inside); below = w .below; above = λ j g h. goes-on mid j g h t }
-
-  pub halving-up : (mid : ℕ) → low ≤ mid → mid < high → p mid ≡ false → Halving p n (mid + 1) high
-  halving-up mid l u f = record {
-    order = omega arith;
-    inside = w .inside;
-    below = λ j h. by-test (p j) (λ t. both (goes-on j mid (omega arith) (omega (arith, w .inside)) t) f) (λ e. e);
-    above = w .above;
-  }
-
-  pub halving-end : high ≤ low → low ≡ first p 0 n
-  halving-end h =
-      let e : low ≡ high = omega (arith, w .order) in
-      first-unique p 0 n _ _
-      (record { low = omega arith; high = omega (arith, w .inside); below = λ j l u. w .below j u; here = λ u. w .above low (omega arith) u })
-      (first-is p 0 n (omega arith))
-
 -- the rows of a table
 module _ (table : List ℕ) (n : ℕ) (a : Ascending table n) (k : ℕ) where
-  pub behind-on : (i j : ℕ) → i ≤ j → j < n → rowBehind table k i ≡ true → rowBehind table k j ≡ true
+  pub behind-on : GoesOn (rowBehind table k) n
   unfolding rowBehind
   behind-on i j l h t = lt-ltb k (rowEnd table j) (omega (arith, ltb-true k (rowEnd table i) t, a .ends i j l h))
 

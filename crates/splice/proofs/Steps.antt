@@ -6,6 +6,7 @@ use native.Mathlib.Omega.{arith}
 use lib.ListN.{length, length-append}
 use borrow.Author.Tests.{lt-ltb, le-ltb}
 use Rattle.lists.specs.Windows.{spliced}
+use Rattle.lists.specs.Written.{Written}
 use Rattle.lists.proofs.Windows.{length-spliced, spliced-then}
 use Rattle.fields.specs.declared.ByteOrder.{ByteOrder}
 use Rattle.scope.specs.declared.Finding.{Finding}
@@ -25,7 +26,6 @@ use Rattle.answers.specs.declared.Outcome.{Outcome}
 use Rattle.answers.specs.Answers.{Answer, refused}
 use Rattle.answers.proofs.Answers.{outcome-length, output-zeroed}
 use Rattle.buffers.specs.Buffers.{zeros, zeroedFrom}
-use Rattle.draft_lines.specs.Written.{Written}
 use Rattle.splicer.specs.Answered.{Answered}
 use Rattle.splicer.specs.Verdict.{pickAnswer}
 use Rattle.inputs.specs.Read.{Given}

@@ -7,18 +7,14 @@ use lib.Dec.{ltb}
 use Rattle.fields.specs.declared.ByteOrder.{ByteOrder}
 use Rattle.scope.specs.declared.Finding.{Finding}
 use Rattle.scope.specs.declared.Finding.the-variants.{Clear, At}
+use Rattle.scope.specs.Limits.{LATE_TABLE, SPAN_TABLE}
 use Rattle.scope.specs.Refusals.{LIMITS, LATE_WORDS}
 use Rattle.elf.specs.Readers.{orderOf}
-use Rattle.late.specs.Table.{LATE_TABLE}
 use Rattle.splice_sections.specs.Sections.{lateFinding, sectionBytes, rodataBytes, registerBytes}
 use Rattle.line_up.specs.Lined.{lineUp, ifLined}
 use Rattle.inputs.specs.Inputs.{inputsOf, ifTaken}
 use Rattle.answers.specs.Answers.{Answer, refused, NONE, COMPILED}
 use Rattle.splicer.specs.Verdict.{pickAnswer, roomFor}
-
--- rows of 8 bytes for the 1,024 spans of a section
-abbrev pub SPAN_TABLE : ℕ
-SPAN_TABLE = 8192
 
 -- refusal 1 of the two working buffers that the inputs do not ask for
 unfoldable pub areShort : ℕ → ℕ → Bool

@@ -17,11 +17,6 @@ use inputs::Inputs;
 use line_up::LineUp;
 use scope::Finding;
 
-// The least lengths of the working buffers beside those of the inputs.
-pub const LATE_TABLE: usize = 291920;
-
-pub const SPAN_TABLE: usize = 8192;
-
 // Writes the four sections, one behind the other; the first three end at first, second and third.
 fn write_sections(
     out: &mut [u8],
@@ -318,10 +313,10 @@ fn splice_all(
 ) -> Outcome
     ensures { λ r. ⌜ Answered (spliceVerdict (now (compiled .entry)) (now (assembled .entry)) (now (file .entry)) (length (now (out .entry))) (length (now (table .entry))) (length (now (places .entry))) (length (now (late .entry))) (length (now (rows .entry)))) r (now (out .entry)) (now (out .exit)) ⌝ }
 {
-    if late.len() < LATE_TABLE {
+    if late.len() < scope::LATE_TABLE {
         return answers::refusal(scope::LIMITS, answers::NONE, 0);
     }
-    if rows.len() < SPAN_TABLE {
+    if rows.len() < scope::SPAN_TABLE {
         return answers::refusal(scope::LIMITS, answers::NONE, 0);
     }
     splice_taken(compiled, assembled, file, out, table, places, late, rows)

@@ -9,11 +9,11 @@ use lib.Seq.{take-at}
 use lib.Dec.{leb}
 use borrow.Author.Tests.{le-leb, lt-leb}
 use Rattle.lists.specs.Windows.{spliced}
+use Rattle.lists.specs.Written.{Written}
 use Rattle.buffers.specs.Buffers.{zeros, zeroedFrom}
 use Rattle.answers.specs.declared.Outcome.{Outcome}
 use Rattle.answers.specs.Answers.{Answer, accepted, refused, lengthOutcome, outcomeOf, resultOf}
 use Rattle.answers.proofs.Answers.{outcome-length, output-zeroed}
-use Rattle.draft_lines.specs.Written.{Written}
 use Rattle.splicer.specs.Answered.{Answered, Drafted}
 use Rattle.splicer.specs.Verdict.{pickAnswer, roomFor}
 

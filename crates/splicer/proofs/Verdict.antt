@@ -1,10 +1,7 @@
 -- One step of the verdict after another: a test that passes leaves the rest to decide, and a fault is its refusal. Assumes nothing.
-use mathlib.Core.Path.{_≡_, refl, ap, _∙_}
-use mathlib.Core.Bool.{Bool, true, false, _||_}
-use mathlib.Core.List.{List}
-use Prim.Native.Nat.{ℕ, _≤_, _<_}
-use lib.Dec.{ltb}
-use borrow.Author.Tests.{lt-ltb, le-ltb, ltb-false}
+use mathlib.Core.Path.{_≡_}
+use mathlib.Core.Bool.{Bool, true, false}
+use Prim.Native.Nat.{ℕ}
 use Rattle.scope.specs.declared.Finding.{Finding}
 use Rattle.scope.specs.declared.Finding.the-variants.{Clear, At}
 use Rattle.object.specs.declared.View.{View}
@@ -12,16 +9,8 @@ use Rattle.object.specs.declared.Checked.{Checked}
 use Rattle.object.specs.declared.Checked.the-variants.{Accepted, Refused}
 use Rattle.places.specs.declared.Placing.{Placing}
 use Rattle.places.specs.declared.Placing.the-variants.{Placed, Misplaced, Misaligned}
-use Rattle.fields.specs.declared.ByteOrder.{ByteOrder}
-use Rattle.elf.specs.Readers.{orderOf, sectionCount, contents}
-use Rattle.elf.specs.Bounds.{Headed}
-use Rattle.symbols.specs.Symbols.{symbolStrings, Table}
-use Rattle.object.specs.Object.{viewOf, checkOf}
-use Rattle.object.specs.Sound.{Sound}
-use Rattle.object.proofs.Sound.{accepted}
 use Rattle.answers.specs.Answers.{Answer, refused}
-use Rattle.splicer.specs.Answered.{InLimits}
-use Rattle.splicer.specs.Verdict.{pickAnswer, overLimits, ifPlaced, ifClear, ifSound}
+use Rattle.splicer.specs.Verdict.{pickAnswer, ifPlaced, ifClear, ifSound}
 
 module _ (f : Placing) (rest : Answer) where
   pub placed-rest : f ≡ Placed → rest ≡ ifPlaced f rest
@@ -54,67 +43,8 @@ module _ (f : Checked) (rest : Answer) where
   unfolding ifSound
   sound-fault number place e = rw e
 
--- refusal 1, test by test
-module _ (c p b t s : ℕ) where
-  pub over-1 : 1048576 < c → true ≡ overLimits c p b t s
-  unfolding overLimits
-  over-1 h = rw (lt-ltb _ _ h)
-
-  pub over-2 : c ≤ 1048576 → 1048576 < p → true ≡ overLimits c p b t s
-  unfolding overLimits
-  over-2 h i = rw (le-ltb _ _ h, lt-ltb _ _ i)
-
-  pub over-3 : c ≤ 1048576 → p ≤ 1048576 → 1048576 < b → true ≡ overLimits c p b t s
-  unfolding overLimits
-  over-3 h i j = rw (le-ltb _ _ h, le-ltb _ _ i, lt-ltb _ _ j)
-
-  pub over-4 : c ≤ 1048576 → p ≤ 1048576 → b ≤ 1048576 → t < 49152 → true ≡ overLimits c p b t s
-  unfolding overLimits
-  over-4 h i j k = rw (le-ltb _ _ h, le-ltb _ _ i, le-ltb _ _ j, lt-ltb _ _ k)
-
-  pub over-5 : c ≤ 1048576 → p ≤ 1048576 → b ≤ 1048576 → 49152 ≤ t → ltb s 32768 ≡ overLimits c p b t s
-  unfolding overLimits
-  over-5 h i j k = rw (le-ltb _ _ h, le-ltb _ _ i, le-ltb _ _ j, le-ltb _ _ k)
-
-  pub in-limits : overLimits c p b t s ≡ false → InLimits c p b t s
-  unfolding overLimits
-  in-limits e =
-      let a = or-parts (ltb 1048576 c) _ e in
-      let d = or-parts (ltb 1048576 p) _ (a .1) in
-      let f = or-parts (ltb 1048576 b) _ (d .1) in
-      let g = or-parts (ltb t 49152) _ (f .1) in
-      record { compiled-limit = ltb-false _ _ (a .0); prelude-limit = ltb-false _ _ (d .0); blocks-limit = ltb-false _ _ (f .0); table-size = ltb-false _ _ (g .0); places-size = ltb-false _ _ (g .1) }
-    where
-      or-parts : (a b : Bool) → (a || b) ≡ false → (a ≡ false) × (b ≡ false)
-      or-parts true b e = (e, cc)
-      or-parts false b e = (refl, e)
-
 pub verdict-over : (rest : Answer) (t : Bool) → t ≡ true → refused 1 0 0 ≡ pickAnswer t (refused 1 0 0) rest
 verdict-over rest t e = rw e
 
 pub verdict-rest : (rest : Answer) (t : Bool) → t ≡ false → rest ≡ pickAnswer t (refused 1 0 0) rest
 verdict-rest rest t e = rw e
-
--- an accepted object gives its headers, and its symbol table, in the byte order that it states
-module _ (C : List ℕ) (v : View) (o : ByteOrder) (e : checkOf C ≡ Accepted v) (q : o ≡ orderOf C) where
-  is-view : v ≡ viewOf o C
-  is-view = rw q (accepted C v e .0)
-
-  sound : Sound o C
-  sound = rw q (accepted C v e .1)
-
-  pub sound-headed : Headed o C
-  sound-headed = sound .named .headed
-
-  pub sound-strings : v .«symbol_strings» < sectionCount o C
-  unfolding viewOf
-  sound-strings = rw is-view (sound .tabled .strings)
-
-  pub sound-table : (s : List ℕ) → s ≡ contents o C (v .«symbol_strings») → Table o C (v .«symbols_at») (v .symbols) s
-  unfolding viewOf symbolStrings
-  sound-table s is = record {
-    tabled = sound .tabled;
-    at = ap (λ (x : View). x .«symbols_at») is-view;
-    many = ap (λ (x : View). x .symbols) is-view;
-    names = is ∙ ap (λ (x : View). contents o C (x .«symbol_strings»)) is-view;
-  }

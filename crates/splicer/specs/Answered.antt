@@ -3,7 +3,6 @@ use Prim.Native.Nat.{ℕ, _≤_}
 use mathlib.Core.List.{List}
 use mathlib.Core.Path.{_≡_}
 use lib.ListN.{length, take}
-use Rattle.scope.specs.Limits.{FILE_LIMIT, BLOCK_TABLE, PLACE_TABLE}
 use Rattle.answers.specs.declared.Outcome.{Outcome}
 use Rattle.answers.specs.Answers.{Answer, outcomeOf, resultOf, outputOf}
 use Rattle.buffers.specs.Buffers.{zeros}
@@ -13,14 +12,6 @@ pub record Answered (answer : Answer) (r : Outcome) (before after : List ℕ) : 
   pub long : length after ≡ length before
   pub fits : length (resultOf answer) ≤ length before
   pub result : take (length (resultOf answer)) after ≡ resultOf answer
-
--- refusal 1 has passed
-pub record InLimits (compiled prelude blocks table places : ℕ) : Type 0 where
-  pub compiled-limit : compiled ≤ FILE_LIMIT
-  pub prelude-limit : prelude ≤ FILE_LIMIT
-  pub blocks-limit : blocks ≤ FILE_LIMIT
-  pub table-size : BLOCK_TABLE ≤ table
-  pub places-size : PLACE_TABLE ≤ places
 
 -- what a draft call gives back and leaves: the answer's numbers; the result and zeros past it in the output; zeros in the working buffers
 pub record Drafted (answer : Answer) (r : Outcome) (out outAfter table tableAfter places placesAfter : List ℕ) : Type 0 where

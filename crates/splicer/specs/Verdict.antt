@@ -1,13 +1,13 @@
 -- The draft, whole (document 01, "What a call gives back" and "Order"): 1; C by 2 to 6; 7; blocks by 8 and 9; then 21.
 use Prim.Native.Nat.{ℕ}
-use mathlib.Core.Bool.{Bool, true, false, _||_}
+use mathlib.Core.Bool.{Bool, true, false}
 use mathlib.Core.List.{List}
 use lib.ListN.{length}
-use lib.Dec.{ltb, leb}
+use lib.Dec.{leb}
 use Rattle.fields.specs.declared.ByteOrder.{ByteOrder}
 use Rattle.scope.specs.declared.Finding.{Finding}
 use Rattle.scope.specs.declared.Finding.the-variants.{Clear, At}
-use Rattle.scope.specs.Limits.{FILE_LIMIT, BLOCK_TABLE, PLACE_TABLE}
+use Rattle.scope.specs.Limits.{overLimits}
 use Rattle.scope.specs.Refusals.{LIMITS, BLOCK_FILE, BLOCK_PLACE, BLOCK_ALIGNMENT, OUTPUT_ROOM}
 use Rattle.elf.specs.Readers.{orderOf}
 use Rattle.object.specs.declared.Checked.{Checked}
@@ -23,11 +23,6 @@ use Rattle.draft_text.specs.Draft.{draftText}
 abbrev pub pickAnswer : Bool → Answer → Answer → Answer
 pickAnswer true a b = a
 pickAnswer false a b = b
-
--- refusal 1: C, the prelude or the block file over the limit, or a working buffer below its constant
-unfoldable pub overLimits : ℕ → ℕ → ℕ → ℕ → ℕ → Bool
-overLimits compiled prelude blocks table places =
-    ltb FILE_LIMIT compiled || (ltb FILE_LIMIT prelude || (ltb FILE_LIMIT blocks || (ltb table BLOCK_TABLE || ltb places PLACE_TABLE)))
 
 -- refusal 21: the exact length that is needed
 unfoldable pub roomFor : List ℕ → ℕ → Answer

@@ -6,19 +6,12 @@ use native.Mathlib.Omega.{arith}
 use lib.ListN.{length, length-append}
 use lib.Dec.{eqb}
 use borrow.Author.Tests.{eq-eqb, ne-eqb, eqb-true, eqb-false}
-use Rattle.lists.proofs.Ranges.{by-test, by-lt}
+use Rattle.lists.proofs.Ranges.{by-test}
 use Rattle.lists.specs.Strings.{nameAt}
-use Rattle.lists.proofs.Strings.{name-length, name-past, end-high}
 use Rattle.scope.specs.Text.{text}
 use Rattle.draft_lines.specs.Lines.{decimalText}
 use Rattle.static_table.specs.declared.Static.{Static}
 use Rattle.static_table.specs.Statics.{storedName, countTail, workingName, nameHead, writtenName, staticType, staticBinding}
-
--- a name is no longer than its table
-pub name-short : (C : List ℕ) (at : ℕ) → length (nameAt C at) ≤ length C
-name-short C at = by-lt (length C) at
-    (λ h. rw (name-past C at (omega arith)) (omega arith))
-    (λ h. omega (arith, name-length C at, end-high C at h))
 
 module _ (mode : ℕ) (path : List ℕ) where
   pub head-3 : mode ≡ 3 → path ++ text ":" ≡ nameHead mode path

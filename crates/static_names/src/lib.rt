@@ -3,7 +3,7 @@
 ghost use mathlib.Core.Path.{_≡_};
 ghost use Prim.Native.Nat.{_≤_, _<_};
 ghost use lib.ListN.{length};
-ghost use Rattle.draft_lines.specs.Written.{Written};
+ghost use Rattle.lists.specs.Written.{Written};
 ghost use Rattle.static_table.specs.Statics.{countTail, nameHead, workingName, writtenName, staticType, staticBinding};
 use static_table::Static;
 

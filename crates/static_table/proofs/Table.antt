@@ -7,8 +7,7 @@ use native.Mathlib.Omega.{arith}
 use native.Mathlib.Nat.{add-zero}
 use lib.ListN.{length, getD, length-append, List·getD-append}
 use lib.Seq.{ext-getD, getD-at}
-use Rattle.lists.specs.Ranges.{select}
-use Rattle.lists.proofs.Ranges.{count-all, select-length, select-at, select-zero}
+use Rattle.lists.proofs.Ranges.{select-zero, select-all-at, select-all-length}
 use Rattle.lists.specs.Windows.{Within, spliced}
 use Rattle.lists.proofs.Windows.{length-spliced, within-within, within-at, within-spliced, spliced-same, spliced-then}
 use Rattle.lists.specs.Records.{flat}
@@ -70,11 +69,11 @@ module _ (l : List Static) (T : List ℕ) (w : Within (rows l) 0 T) where
 module _ (T : List ℕ) where
   pub length-statics : (n : ℕ) → length (staticsIn T n) ≡ n
   unfolding staticsIn
-  length-statics n = select-length (λ k. true) (staticIn T) n ∙ count-all n
+  length-statics n = select-all-length (staticIn T) n
 
   pub statics-at : (k n : ℕ) (d : Static) → k < n → getD (staticsIn T n) k d ≡ staticIn T k
   unfolding staticsIn
-  statics-at k n d h = ap (λ (x : ℕ). getD (select (λ j. true) (staticIn T) n) x d) (sym (count-all k)) ∙ select-at (λ j. true) (staticIn T) k n d h refl
+  statics-at k n d h = select-all-at (staticIn T) k n d h
 
   pub statics-none : staticsIn T 0 ≡ []
   unfolding staticsIn

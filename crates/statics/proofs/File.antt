@@ -2,18 +2,16 @@
 use mathlib.Core.Path.{_≡_, refl, sym, ap, _∙_}
 use mathlib.Core.Bool.{Bool, true, false, cond, not, _||_}
 use mathlib.Core.List.{List}
-use Prim.Native.Nat.{ℕ, zero, suc, _+_, _-_, _*_, _≤_, _<_}
+use Prim.Native.Nat.{ℕ, zero, suc, _+_, _*_, _≤_, _<_}
 use native.Mathlib.Omega.{arith}
-use native.Mathlib.Nat.{add-zero}
 use native.Mathlib.Numerals.{add-one}
-use lib.ListN.{length, take, drop, length-append}
-use lib.Seq.{drop-drop}
+use lib.ListN.{length, length-append}
 use lib.Dec.{eqb, ltb}
 use borrow.Author.Tests.{lt-ltb, le-ltb, ltb-false}
 use Rattle.lists.specs.Ranges.{first, count}
-use Rattle.lists.proofs.Ranges.{by-test, both, first-here, first-next, first-end, first-high, count-yes, count-no, count-zero, count-le}
+use Rattle.lists.proofs.Ranges.{by-test, both, first-here, first-next, first-end, first-high, count-zero, count-le, count-next}
 use Rattle.lists.specs.Windows.{spliced}
-use Rattle.lists.proofs.Windows.{take-spliced, drop-spliced, spliced-same, length-spliced}
+use Rattle.lists.proofs.Windows.{spliced-same, length-spliced, spliced-over}
 use Rattle.fields.specs.declared.ByteOrder.{ByteOrder}
 use Rattle.debug_entries.specs.Entries.{opensScope, closesScope}
 use Rattle.static_table.specs.declared.Static.{Static}
@@ -24,21 +22,7 @@ use Rattle.static_entries.specs.Entry.{typeAt, isStatic, entryFault, listAfter}
 use Rattle.static_entries.specs.Step.{listNext, Stepped}
 use Rattle.statics.specs.File.{entryPlace, opened, closed, nested, balanced, listedIn, faultIn, completedIn, failsIn, FileWalked}
 
--- ---- lists
-
--- a longer write over a write at the same place
-pub spliced-over : (l : List ℕ) (o : ℕ) (a b : List ℕ) → length a ≤ length b → o + length b ≤ length l → spliced (spliced l o a) o b ≡ spliced l o b
-unfolding spliced
-spliced-over l o a b h k =
-    let m = length b - length a in
-    let e : o + length b ≡ o + length a + m = omega arith in
-    let t : take o (spliced l o a) ≡ take o l = take-spliced l o a (omega arith) in
-    let d : drop (o + length b) (spliced l o a) ≡ drop (o + length b) l =
-    rw e (sym (drop-drop m (o + length a) (spliced l o a)) ∙ ap (drop m) (drop-spliced l o a (omega arith)) ∙ drop-drop m (o + length a) l) in
-    rw (t, d)
-
-count-next : (p : ℕ → Bool) (j : ℕ) → count p (j + 1) ≡ count p j + cond (p j) 1 0
-count-next p j = by-test (p j) (λ t. rw (count-yes p j t, t)) (λ f. rw (count-no p j f, f) (sym (add-zero (count p j))))
+-- ---- tables
 
 rows-long : (X : List ℕ) (k : ℕ) → length (rows (staticsIn X k)) ≡ 24 * k
 rows-long X k = length-rows (staticsIn X k) ∙ ap (λ (i : ℕ). 24 * i) (length-statics X k)

@@ -3,7 +3,7 @@ use lib.Dec.{eqb, ltb, leb}
 use Rattle.scope.specs.declared.Finding.{Finding}
 use Rattle.statics.specs.declared.Listing.{Listing}
 use mathlib.Core.Path.{_≡_, refl, sym, ap, _∙_}
-use mathlib.Core.Bool.{Bool, true, false, not, _&&_}
+use mathlib.Core.Bool.{true, false, not, and-false}
 use mathlib.Core.List.{List, []}
 use Prim.Native.Nat.{ℕ, _+_, _*_, _≤_, _<_}
 use native.Mathlib.Omega.{arith}
@@ -225,10 +225,6 @@ module _ (o : ByteOrder) (C : List ℕ) (head : ℕ) (t : Tables) (T₀ : List �
         }
 
 -- ---- the debug section
-
-and-false : (b : Bool) → (b && false) ≡ false
-and-false true = refl
-and-false false = refl
 
 -- no static: the table stays
 pub answered-none : (head : ℕ) (C : List ℕ) (f : Finding) (l : List Static) (T : List ℕ) (x : Finding) → 98304 ≤ length T → x ≡ f → l ≡ []

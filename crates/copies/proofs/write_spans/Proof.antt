@@ -1,6 +1,6 @@
 -- `copies::write_spans` meets its contract: before each turn the first k bytes are written, and a turn adds the run at k. Assumes nothing.
 use Rattle.copies.proofs.Copying.{writing, front, front-more, front-next, front-end}
-use Rattle.runs.proofs.Pieces.{Begun, begun-none}
+use Rattle.lists.proofs.Pieces.{Begun, begun-none}
 use Rattle.spans.specs.Spans.{copied}
 use borrow.Author.Needs.{needs}
 use native.Mathlib.Omega.{arith}

@@ -1,12 +1,13 @@
 -- The list has one number. Assumes nothing.
 use Rattle.debug_entries.specs.Entries.{closesScope, among}
-use Rattle.debug_entries.proofs.Entries.{or-false}
+use mathlib.Core.Path.{sym}
+use mathlib.Core.Bool.{or-false}
 use Rattle.debug_entries.proofs.closes_scope.Statement.{statement}
 use Rattle.debug_entries.proofs.closes_scope.Tie as tie
 
 returns : tie.Need-returns
 unfolding closesScope among
-returns c = or-false _
+returns c = sym (or-false _)
 
 pub closes-scope-spec : {M : Type 1} → statement M
 closes-scope-spec = tie.close (tie.spec returns)

@@ -1,6 +1,6 @@
 -- `draft_lines::append` meets its contract: the end is counted in any case, and where it lies in the output the bytes are copied there, else
 -- nothing is touched. Assumes nothing.
-use Rattle.draft_lines.proofs.Written.{written-copy, written-short}
+use Rattle.lists.proofs.Written.{written-copy, written-short}
 use Prim.Native.Nat.{_+_}
 use mathlib.Core.Path.{refl}
 use lib.ListN.{length}

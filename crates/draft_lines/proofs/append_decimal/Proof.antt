@@ -1,5 +1,5 @@
 -- `draft_lines::append_decimal` meets its contract: the ten bytes from the first digit on are the digits, and they are appended. Assumes nothing.
-use Rattle.draft_lines.proofs.Written.{written-as}
+use Rattle.lists.proofs.Written.{written-as}
 use Rattle.draft_lines.proofs.Lines.{digits-part}
 use borrow.Author.Needs.{needs}
 use Rattle.draft_lines.proofs.append_decimal.Statement.{statement}

@@ -2,8 +2,8 @@
 -- A value and its LF are shorter than its line, so the end never runs ahead of the place in the file. Assumes nothing.
 use Rattle.lines.specs.Keys.{isKeyLine}
 use Rattle.draft_lines.specs.Lines.{groupLines}
-use Rattle.draft_lines.specs.Written.{Written}
-use Rattle.draft_lines.proofs.Written.{written-none}
+use Rattle.lists.specs.Written.{Written}
+use Rattle.lists.proofs.Written.{written-none}
 use Rattle.draft_lines.proofs.Groups.{group-turn, group-done, key-line-turn}
 use borrow.Author.Needs.{needs}
 use native.Mathlib.Omega.{arith}

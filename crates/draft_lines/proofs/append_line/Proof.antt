@@ -1,6 +1,6 @@
 -- `draft_lines::append_line` meets its contract: the bytes and an LF, one behind the other, are the line. Assumes nothing.
 use Rattle.draft_lines.specs.Lines.{lined}
-use Rattle.draft_lines.proofs.Written.{written-then}
+use Rattle.lists.proofs.Written.{written-then}
 use borrow.Author.Needs.{needs}
 use Rattle.draft_lines.proofs.append_line.Statement.{statement}
 use Rattle.draft_lines.proofs.append_line.Tie as tie

@@ -2,8 +2,8 @@
 -- Assumes nothing.
 use Rattle.scope.specs.Text.{text}
 use Rattle.draft_lines.specs.Lines.{lined, nopLines}
-use Rattle.draft_lines.specs.Written.{Written}
-use Rattle.draft_lines.proofs.Written.{written-none, written-short, written-then, written-as}
+use Rattle.lists.specs.Written.{Written}
+use Rattle.lists.proofs.Written.{written-none, written-short, written-then, written-as}
 use Rattle.draft_lines.proofs.Lines.{nop-lines-zero, nop-lines-next, length-nop-lines}
 use borrow.Author.Needs.{needs}
 use native.Mathlib.Omega.{arith}

@@ -1,7 +1,7 @@
 -- `draft_lines::append_space` meets its contract: the word, the digits and an LF, one behind the other, are the line. Assumes nothing.
 use Rattle.scope.specs.Text.{text}
 use Rattle.draft_lines.specs.Lines.{lined, spaceLine}
-use Rattle.draft_lines.proofs.Written.{written-then}
+use Rattle.lists.proofs.Written.{written-then}
 use Rattle.draft_lines.proofs.Lines.{decimal-short}
 use native.Mathlib.Omega.{arith}
 use borrow.Author.Needs.{needs}

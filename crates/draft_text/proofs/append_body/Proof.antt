@@ -2,7 +2,7 @@
 use lib.Dec.{lit≤}
 use Rattle.scope.specs.Text.{text}
 use Rattle.blocks.proofs.Blocks.{counted-group}
-use Rattle.draft_lines.proofs.Written.{written-then, written-as}
+use Rattle.lists.proofs.Written.{written-then, written-as}
 use Rattle.draft_lines.proofs.Lines.{group-lines-short}
 use Rattle.draft_text.proofs.Text.{body-read, length-dot-text}
 use native.Mathlib.Omega.{arith}

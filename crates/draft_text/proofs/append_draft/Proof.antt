@@ -1,5 +1,5 @@
 -- The prelude's line, the lines of all blocks, and the late part. Assumes nothing.
-use Rattle.draft_lines.proofs.Written.{written-then, written-as}
+use Rattle.lists.proofs.Written.{written-then, written-as}
 use Rattle.draft_lines.proofs.Lines.{length-lined}
 use Rattle.draft_text.proofs.Text.{draft-read}
 use native.Mathlib.Omega.{arith}

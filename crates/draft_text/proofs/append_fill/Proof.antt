@@ -1,5 +1,5 @@
 -- Nops in .text, `.space` elsewhere; either is no longer than the gap, or than 18 bytes. Assumes nothing.
-use Rattle.draft_lines.proofs.Written.{written-as}
+use Rattle.lists.proofs.Written.{written-as}
 use Rattle.draft_lines.proofs.Lines.{length-nop-lines, length-space, decimal-short}
 use Rattle.draft_text.proofs.Text.{fill-nops, fill-space}
 use native.Mathlib.Omega.{arith}

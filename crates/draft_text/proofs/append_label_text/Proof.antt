@@ -1,5 +1,5 @@
 -- A line with a label adds its section and the label with its suffix; one without adds nothing. Assumes nothing.
-use Rattle.draft_lines.proofs.Written.{written-none, written-then, written-as}
+use Rattle.lists.proofs.Written.{written-none, written-then, written-as}
 use Rattle.draft_lines.proofs.Lines.{length-label, section-short}
 use Rattle.draft_lines.specs.Lines.{sectionLine, labelLine}
 use Rattle.places.specs.Spans.{spanCode}

@@ -1,7 +1,7 @@
 -- The labels of the first c lines of the block are written, each at most 2 ^ 21 bytes. Assumes nothing.
 use Rattle.blocks.proofs.Blocks.{count-high}
-use Rattle.draft_lines.specs.Written.{Written}
-use Rattle.draft_lines.proofs.Written.{written-none, written-then, written-as}
+use Rattle.lists.specs.Written.{Written}
+use Rattle.lists.proofs.Written.{written-none, written-then, written-as}
 use Rattle.draft_text.proofs.Text.{labelsSo, labels-zero, labels-next, labels-all}
 use borrow.Author.Needs.{needs}
 use native.Mathlib.Omega.{arith}

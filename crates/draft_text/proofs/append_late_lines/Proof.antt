@@ -4,7 +4,7 @@ use Rattle.lists.specs.Ranges.{gather}
 use Rattle.blocks.specs.Blocks.{blockCount}
 use Rattle.blocks.proofs.Blocks.{count-high}
 use Rattle.places.specs.Spans.{live}
-use Rattle.draft_lines.specs.Written.{Written}
+use Rattle.lists.specs.Written.{Written}
 use Rattle.draft_text.specs.Draft.{lateText}
 use Rattle.draft_text.proofs.Late.{late-start, late-turn, late-pass, late-done, late-from, late-grows}
 use borrow.Author.Needs.{needs}

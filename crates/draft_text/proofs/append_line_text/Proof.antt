@@ -1,7 +1,7 @@
 -- The padding, and behind the last line of a block that stays on its body. Assumes nothing.
 use mathlib.Core.List.{append-nil}
 use Rattle.places.specs.Spans.{spanBlock, spanCode}
-use Rattle.draft_lines.proofs.Written.{written-then, written-as}
+use Rattle.lists.proofs.Written.{written-then, written-as}
 use Rattle.draft_text.proofs.Text.{line-pad, line-off, line-body}
 use Rattle.draft_text.specs.Draft.{padText}
 use native.Mathlib.Omega.{arith}

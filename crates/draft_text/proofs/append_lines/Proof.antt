@@ -1,8 +1,8 @@
 -- What the first j lines add is written, and the ends of all sections behind them are in hand. Assumes nothing.
 use Rattle.blocks.proofs.Blocks.{count-high}
 use Rattle.places.specs.Spans.{spanCode}
-use Rattle.draft_lines.specs.Written.{Written}
-use Rattle.draft_lines.proofs.Written.{written-none, written-then, written-as}
+use Rattle.lists.specs.Written.{Written}
+use Rattle.lists.proofs.Written.{written-none, written-then, written-as}
 use Rattle.draft_text.specs.Draft.{linesText}
 use Rattle.draft_text.proofs.Text.{lines-zero, lines-next}
 use Rattle.draft_text.proofs.Places.{Ends, ends-start, ends-next}

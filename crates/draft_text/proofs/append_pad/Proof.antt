@@ -1,5 +1,5 @@
 -- A span that is taken and lies past the end before adds its section and the fill between the two. Assumes nothing.
-use Rattle.draft_lines.proofs.Written.{written-none, written-then, written-as}
+use Rattle.lists.proofs.Written.{written-none, written-then, written-as}
 use Rattle.draft_lines.proofs.Lines.{section-short}
 use Rattle.places.specs.Spans.{spanCode, taken}
 use Rattle.draft_text.proofs.Text.{pad-none, pad-level, pad-some}

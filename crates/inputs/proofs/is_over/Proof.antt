@@ -1,5 +1,5 @@
 -- The five tests of refusal 1, in order. Assumes nothing.
-use Rattle.inputs.proofs.Steps.{over-1, over-2, over-3, over-4, over-5}
+use Rattle.scope.proofs.Limits.{over-1, over-2, over-3, over-4, over-5}
 use Rattle.inputs.proofs.is_over.Statement.{statement}
 use Rattle.inputs.proofs.is_over.Tie as tie
 

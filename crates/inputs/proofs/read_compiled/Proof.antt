@@ -1,6 +1,7 @@
 -- Refusals 2 to 6 of C; where it is accepted its symbols are in hand, and the rest goes by its byte order. Assumes nothing.
 use Rattle.inputs.specs.Inputs.{compiledOf}
-use Rattle.inputs.proofs.Steps.{sound-rest, sound-fault, opened-headed, opened-of, read-faulty, in-order}
+use Rattle.object.proofs.Order.{accepted-headed}
+use Rattle.inputs.proofs.Steps.{sound-rest, sound-fault, opened-of, read-faulty, in-order}
 use mathlib.Core.Path.{sym, _∙_}
 use denote.Ref.{now}
 use borrow.Author.Needs.{needs}
@@ -18,7 +19,7 @@ order-of-requires c κs = search needs
 
 contents-of-requires : tie.Need-contents-of-requires
 contents-of-requires c κs =
-    opened-headed (now (c .before .before .before .before .before .before .before .before .before .before .args .compiled)) _ _ (sym (c .before .before .before .before .check .ensures) ∙ c .before .before .view .given .1) (c .order-of .ensures)
+    accepted-headed (now (c .before .before .before .before .before .before .before .before .before .before .args .compiled)) _ _ (sym (c .before .before .before .before .check .ensures) ∙ c .before .before .view .given .1) (c .order-of .ensures)
 
 read-file-requires : tie.Need-read-file-requires
 read-file-requires c κs =

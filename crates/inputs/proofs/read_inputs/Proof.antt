@@ -1,6 +1,7 @@
 -- Refusal 1 first; within its limits the objects and the block file decide. Assumes nothing.
 use Rattle.inputs.specs.Inputs.{inputsOf}
-use Rattle.inputs.proofs.Steps.{in-limits, inputs-over, inputs-rest, read-faulty, read-as}
+use Rattle.scope.proofs.Limits.{in-limits}
+use Rattle.inputs.proofs.Steps.{inputs-over, inputs-rest, read-faulty, read-as}
 use mathlib.Core.Path.{sym, _∙_}
 use borrow.Author.Needs.{needs}
 use Rattle.inputs.proofs.read_inputs.Statement.{statement}

@@ -1,8 +1,9 @@
 -- `spans::first_behind` meets its contract: every row below `low` ends at k at the latest and every one from `high` on ends behind it, because ends ascend.
 -- A turn halves what lies between. Assumes nothing.
 use borrow.Author.Tests.{lt-ltb, le-ltb}
+use Rattle.lists.proofs.Halves.{Halving, halving-none, halving-down, halving-up, halving-end}
 use Rattle.spans.specs.Table.{rowBehind}
-use Rattle.spans.proofs.Table.{Halving, halving-none, halving-down, halving-up, halving-end, behind-on, behind-read}
+use Rattle.spans.proofs.Table.{behind-on, behind-read}
 use borrow.Author.Needs.{needs}
 use native.Mathlib.Omega.{arith}
 use Prim.Native.Nat.{_-_}
@@ -47,7 +48,7 @@ loop-again c =
     let i = l .inv in
     let b = i .inside in
     let t = sym (behind-read (now (a .table)) (a .k) _ (c .before .row-end .result) (c .before .row-end .ensures)) ∙ lt-ltb _ _ (c .if1 .taken) in
-    halving-down (rowBehind (now (a .table)) (a .k)) (a .n) (behind-on (now (a .table)) (a .n) w (a .k)) (l .low) (l .high) i _ (omega arith) (omega arith) t
+    halving-down (rowBehind (now (a .table)) (a .k)) (a .n) (l .low) (l .high) i (behind-on (now (a .table)) (a .n) w (a .k)) _ (omega arith) t (omega arith)
 
 add-low : tie.Need-add-low Inv-loop μ-loop
 add-low c =
@@ -65,16 +66,13 @@ loop-again-2 c =
     let i = l .inv in
     let b = i .inside in
     let t = sym (behind-read (now (a .table)) (a .k) _ (c .before .row-end .result) (c .before .row-end .ensures)) ∙ le-ltb _ _ (c .if1 .left) in
-    halving-up (rowBehind (now (a .table)) (a .k)) (a .n) (behind-on (now (a .table)) (a .n) w (a .k)) (l .low) (l .high) i _ (omega arith) (omega arith) t
+    halving-up (rowBehind (now (a .table)) (a .k)) (a .n) (l .low) (l .high) i (behind-on (now (a .table)) (a .n) w (a .k)) _ (omega arith) t (omega arith)
 
 returns : tie.Need-returns Inv-loop μ-loop
 returns c =
     let a = c .before .before .before .args in
     let l = c .before .loop in
-    let w = c .before .before .before .pre in
-    let i = l .inv in
-    let b = i .inside in
-    halving-end (rowBehind (now (a .table)) (a .k)) (a .n) (behind-on (now (a .table)) (a .n) w (a .k)) (l .low) (l .high) i (omega arith)
+    halving-end (rowBehind (now (a .table)) (a .k)) (a .n) (l .low) (l .high) (l .inv) (omega arith)
 
 pub first-behind-spec : {M : Type 1} → statement M
 first-behind-spec =

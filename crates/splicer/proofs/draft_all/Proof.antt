@@ -1,7 +1,8 @@
 -- Refusal 1 first; within its limits the rest of the verdict decides. Assumes nothing.
 use Rattle.splicer.specs.Verdict.{draftVerdict}
 use Rattle.splicer.proofs.Answered.{answered-as, answered-refused}
-use Rattle.splicer.proofs.Verdict.{in-limits, verdict-over, verdict-rest}
+use Rattle.scope.proofs.Limits.{in-limits}
+use Rattle.splicer.proofs.Verdict.{verdict-over, verdict-rest}
 use mathlib.Core.Path.{refl, sym, _∙_}
 use borrow.Author.Needs.{needs}
 use Rattle.splicer.proofs.draft_all.Statement.{statement}

@@ -19,7 +19,7 @@ draft-places-requires c κs =
     let a = c .before .before .before .before .before .before .before .before .before .before .before .before .before .before .before .before .args in
     let q = c .before .before .before .before .before .before .before .before .before .before .before .before .before .before .before .before .pre in
     let r = c .before .before .before .before .before .before .before .read-blocks .ensures in
-    (q .0, parsed-of (now (a .file)) _ _ (q .1 .blocks-limit) (q .1 .table-size) (r .table), r .count, q .1 .prelude-limit, q .1 .places-size)
+    (q .0, parsed-of (now (a .file)) _ _ (q .1 .blocks-limit) (q .1 .table-size) (r .table), r .count, q .1 .beside-limit, q .1 .places-size)
 
 enum-known-fault : tie.Need-enum-known-fault
 enum-known-fault c = search needs

@@ -3,7 +3,8 @@ use Rattle.fields.specs.declared.ByteOrder.{ByteOrder}
 use Rattle.blocks.specs.Blocks.{blockFault}
 use Rattle.splicer.specs.Verdict.{ifClear, draftFrom}
 use Rattle.splicer.proofs.Answered.{answered-as, answered-refused}
-use Rattle.splicer.proofs.Verdict.{sound-rest, sound-fault, sound-headed, sound-strings, sound-table}
+use Rattle.object.proofs.Order.{accepted-headed, accepted-table}
+use Rattle.splicer.proofs.Verdict.{sound-rest, sound-fault}
 use mathlib.Core.Path.{refl, sym, ap, _∙_}
 use lib.ListN.{length}
 use denote.Ref.{now}
@@ -24,13 +25,13 @@ contents-of-requires : tie.Need-contents-of-requires
 contents-of-requires c κs =
     let a = c .before .before .before .before .before .before .before .before .before .before .before .args in
     let e = sym (c .before .before .before .before .check .ensures) ∙ c .before .before .checked .given .1 in
-    (sound-headed (now (a .compiled)) _ _ e (c .order-of .ensures), sound-strings (now (a .compiled)) _ _ e (c .order-of .ensures))
+    accepted-headed (now (a .compiled)) _ _ e (c .order-of .ensures)
 
 draft-blocks-requires : tie.Need-draft-blocks-requires
 draft-blocks-requires c κs =
     let a = c .before .before .before .before .before .before .before .before .before .before .before .before .before .before .before .args in
     let e = sym (c .before .before .before .before .before .before .before .before .check .ensures) ∙ c .before .before .before .before .before .before .checked .given .1 in
-    (sound-table (now (a .compiled)) _ _ e (c .before .before .before .before .order-of .ensures) _ (c .before .before .before .contents-of .ensures), c .before .before .before .before .before .before .before .before .before .before .before .before .before .before .before .pre)
+    (accepted-table (now (a .compiled)) _ _ e (c .before .before .before .before .order-of .ensures) _ (c .before .before .before .contents-of .ensures), c .before .before .before .before .before .before .before .before .before .before .before .before .before .before .before .pre)
 
 enum-known-checked-2 : tie.Need-enum-known-checked-2
 enum-known-checked-2 c = search needs

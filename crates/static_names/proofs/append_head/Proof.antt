@@ -1,5 +1,5 @@
 -- The path and a colon in mode 3, else nothing. Assumes nothing.
-use Rattle.draft_lines.proofs.Written.{written-none, written-then, written-as}
+use Rattle.lists.proofs.Written.{written-none, written-then, written-as}
 use Rattle.scope.specs.Text.{text}
 use Rattle.static_names.proofs.Names.{head-3, head-other}
 use denote.Ref.{now}

@@ -1,5 +1,5 @@
 -- Nothing for 0, else a colon and the digits. Assumes nothing.
-use Rattle.draft_lines.proofs.Written.{written-none, written-then, written-as}
+use Rattle.lists.proofs.Written.{written-none, written-then, written-as}
 use Rattle.scope.specs.Text.{text}
 use Rattle.static_names.proofs.Names.{tail-none, tail-some}
 use denote.Ref.{now}

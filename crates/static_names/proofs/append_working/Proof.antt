@@ -1,7 +1,8 @@
 -- The stored name, then the tail of its count. Assumes nothing.
-use Rattle.draft_lines.proofs.Written.{written-then, written-as}
+use Rattle.lists.proofs.Written.{written-then, written-as}
 use Rattle.static_table.specs.Statics.{countTail}
-use Rattle.static_names.proofs.Names.{name-short, working-parts}
+use Rattle.lists.proofs.Strings.{name-short}
+use Rattle.static_names.proofs.Names.{working-parts}
 use native.Mathlib.Omega.{arith}
 use Prim.Native.Nat.{ℕ}
 use mathlib.Core.Path.{ap, _∙_}

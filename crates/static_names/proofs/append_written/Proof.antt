@@ -1,5 +1,5 @@
 -- What the mode puts in front, then the working name. Assumes nothing.
-use Rattle.draft_lines.proofs.Written.{written-then, written-as}
+use Rattle.lists.proofs.Written.{written-then, written-as}
 use Rattle.static_names.proofs.Names.{head-short, written-parts}
 use native.Mathlib.Omega.{arith}
 use denote.Ref.{now}

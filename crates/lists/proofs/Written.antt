@@ -6,9 +6,9 @@ use mathlib.Core.List.{List, [], _++_}
 use native.Mathlib.Nat.{add-zero}
 use native.Mathlib.Omega.{arith}
 use lib.ListN.{length, length-append}
 use Rattle.lists.specs.Windows.{spliced}
 use Rattle.lists.proofs.Windows.{spliced-nil, spliced-then}
-use Rattle.draft_lines.specs.Written.{Written}
+use Rattle.lists.specs.Written.{Written}
 
 -- nothing is written
 pub written-none : (o : List ℕ) (at : ℕ) → Written o at [] at o

@@ -7,12 +7,12 @@ use native.Mathlib.Omega.{arith}
 use lib.ListN.{length, take, drop, drop-of-length-le, take-append-drop}
 use lib.Seq.{drop-drop, take-add, take-all, length-take-le}
 use borrow.Author.Tests.{lt-ltb, le-ltb}
 use Rattle.lists.specs.Windows.{spliced}
 use Rattle.lists.specs.Records.{flat}
 use Rattle.lists.proofs.Ranges.{by-lt}
 use Rattle.lists.proofs.Windows.{length-part, length-spliced, spliced-nil, spliced-then}
 use Rattle.lists.proofs.Records.{flat-none, flat-cons}
-use Rattle.runs.specs.Pieces.{piecesFrom}
+use Rattle.lists.specs.Pieces.{piecesFrom}
 
 module _ {R : Type 0} (bytes : R → List ℕ) (long : R → ℕ) (piece : ℕ → R) (W : List ℕ) (m : ℕ) (same : length W ≡ m)
     (some : (k : ℕ) → k < m → 0 < long (piece k)) (part : (k : ℕ) → k < m → bytes (piece k) ≡ take (long (piece k)) (drop k W)) where

@@ -1,12 +1,14 @@
--- The laws of a search over pairs: what it tells of the pair that it finds, and that it finds a pair that is the only one. Assumes nothing.
+-- The laws of a search over pairs: what it tells of the pair that it finds, that it finds a pair that is the only one, and the order of pairs.
+-- Assumes nothing.
 use Prim.Native.Nat.{ℕ, _<_}
-use mathlib.Core.Path.{_≡_}
+use mathlib.Core.Path.{_≡_, sym}
+use mathlib.Core.Logic.{_⊎_, inl, inr}
 use mathlib.Core.Bool.{Bool, true, false}
 use native.Mathlib.Omega.{arith}
 use borrow.Author.Tests.{lt-ltb, le-ltb, ltb-true}
 use Rattle.lists.specs.Ranges.{first}
-use Rattle.lists.proofs.Ranges.{by-test, both, first-is, first-to, first-none, first-ext}
-use Rattle.moves.specs.Rows.{indexIn, hasIndex, rowIn, columnIn, hasRow}
+use Rattle.lists.proofs.Ranges.{by-test, both, by-lt, first-is, first-to, first-none, first-ext}
+use Rattle.lists.specs.Rows.{indexIn, hasIndex, rowIn, columnIn, hasRow}
 
 module _ (p : ℕ → ℕ → Bool) (m : ℕ → ℕ) where
   -- ---- one row
@@ -80,3 +82,20 @@ module _ (p q : ℕ → ℕ → Bool) (m : ℕ → ℕ) (agree : (i k : ℕ) →
   pub has-row-same : (n : ℕ) → hasRow p m n ≡ hasRow q m n
   unfolding hasRow
   has-row-same n = rw (row-same n)
+
+-- ---- the order of pairs
+
+-- index k of row i comes before index l of row j
+abbrev pub Before : ℕ → ℕ → ℕ → ℕ → Type 0
+Before i k j l = (i < j) ⊎ ((i ≡ j) × (k < l))
+
+pub by-order {ℓ} : {A : Type ℓ} (i k j l : ℕ) → (Before i k j l → A) → (Before j l i k → A) → (i ≡ j → k ≡ l → A) → A
+by-order i k j l before after equal = by-lt i j
+    (λ h. before (inl h))
+    (λ h. by-lt j i
+    (λ g. after (inl g))
+    (λ g.
+    let e : i ≡ j = omega arith in
+    by-lt k l
+    (λ u. before (inr (e, u)))
+    (λ u. by-lt l k (λ v. after (inr (sym e, v))) (λ v. equal e (omega arith)))))
