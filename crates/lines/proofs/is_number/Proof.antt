@@ -32,7 +32,7 @@ both-requires c κs = search needs
 returns-3 : tie.Need-returns-3
 returns-3 c =
     let v = now (c .before .before .before .before .before .before .args .v) in
-    let t : c .both .result ≡ (every isDigit v && not (eqb (getD v 0 0) 48)) = cc in
+    let t : c .both .result ≡ (every isDigit v && not (eqb (getD v 0 0) 48)) = c .both .ensures ∙ (λ k. c .before .before .are-digits2 .ensures k && not (eqb (getD v 0 0) 48)) in
     t ∙ sym (number-more v (omega arith))
 
 pub is-number-spec : {M : Type 1} → statement M

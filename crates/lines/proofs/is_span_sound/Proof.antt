@@ -2,7 +2,7 @@
 use Rattle.lines.specs.Values.{numberSound, sizeIn, alignIn}
 use Rattle.lines.proofs.Values.{span-none, span-numbers}
 use mathlib.Core.Bool.{_&&_}
-use mathlib.Core.Path.{_≡_, sym, _∙_}
+use mathlib.Core.Path.{_≡_, sym, ap, _∙_}
 use denote.Ref.{now}
 use borrow.Author.Needs.{needs}
 use Rattle.lines.proofs.is_span_sound.Statement.{statement}
@@ -31,11 +31,13 @@ both-requires c κs = search needs
 
 returns-2 : tie.Need-returns-2
 returns-2 c =
-    let v = now (c .before .before .before .before .before .before .before .before .args .v) in
-    let s : c .before .before .before .is-number-sound .result ≡ numberSound 1048576 (sizeIn v) = cc in
-    let a : c .before .is-number-sound2 .result ≡ numberSound 8 (alignIn v) = cc in
-    let t : c .both .result ≡ (numberSound 1048576 (sizeIn v) && numberSound 8 (alignIn v)) = cc in
     let n = c .before .before .before .before .before in
+    let v = now (n .before .before .before .args .v) in
+    let s : c .before .before .before .is-number-sound .result ≡ numberSound 1048576 (sizeIn v) =
+    c .before .before .before .is-number-sound .ensures ∙ ap (numberSound 1048576) (c .before .before .before .before .size-in .ensures) in
+    let a : c .before .is-number-sound2 .result ≡ numberSound 8 (alignIn v) =
+    c .before .is-number-sound2 .ensures ∙ ap (numberSound 8) (c .before .before .align-in .ensures) in
+    let t : c .both .result ≡ (numberSound 1048576 (sizeIn v) && numberSound 8 (alignIn v)) = c .both .ensures ∙ (λ k. s k && a k) in
     t ∙ sym (span-numbers v (λ e. n .if1 .left (n .before .space-in .ensures ∙ e)))
 
 pub is-span-sound-spec : {M : Type 1} → statement M
