@@ -15,9 +15,9 @@ use Rattle.lists.proofs.Windows.{drop-next}
 use Rattle.fields.specs.declared.ByteOrder.{ByteOrder}
 use Rattle.scope.specs.Limits.{FILE_LIMIT}
 use Rattle.lines.specs.Lines.{line}
-use Rattle.lines.specs.Values.{every, isDigit, isHexDigit, decimal, dummySound}
+use Rattle.values.specs.Values.{every, isDigit, isHexDigit, decimal, dummySound}
 use Rattle.lines.specs.Keys.{keys, keyName, repeats, valueSound, isKeyLine, valueAt}
-use Rattle.lines.proofs.Values.{tail-part, every-true, digit-range, hex-letter, number-digits, digits-few, sound-number, sound-decimal}
+use Rattle.values.proofs.Values.{tail-part, every-true, digit-range, hex-letter, number-digits, digits-few, sound-number, sound-decimal}
 use Rattle.lines.proofs.Keys.{key-line-text, key-line-sound}
 use Rattle.blocks.specs.Blocks.{groupAt, blockAt, blockCount}
 use Rattle.blocks.proofs.Blocks.{counted-key, counted-jumps}

@@ -5,7 +5,7 @@ use mathlib.Core.Bool.{Bool, cond, _&&_}
 use mathlib.Core.List.{List, [], _∷_}
 use Rattle.lists.specs.Ranges.{sum}
 use Rattle.fields.specs.declared.ByteOrder.{ByteOrder}
-use Rattle.lines.specs.Values.{isDigit, decimal}
+use Rattle.values.specs.Values.{isDigit, decimal}
 use Rattle.lines.specs.Keys.{isKeyLine, valueAt}
 use Rattle.blocks.specs.Blocks.{groupAt, blockAt, blockCount}
 use Rattle.places.specs.Spans.{taken, live}

@@ -4,7 +4,7 @@
 ghost use mathlib.Core.Path.{_≡_};
 ghost use mathlib.Core.Bool.{true};
 ghost use Prim.Native.Nat.{_≤_, _<_};
-ghost use Rattle.lines.specs.Values.{isHexDigit, dummySound};
+ghost use Rattle.values.specs.Values.{isHexDigit, dummySound};
 ghost use Rattle.lines.specs.Keys.{isKeyLine};
 ghost use Rattle.blocks.specs.Blocks.{blockCount};
 ghost use Rattle.blocks.specs.Table.{Parsed};
@@ -74,7 +74,7 @@ pub fn jump_table(file: &[u8], table: &[u8], i: usize) -> usize
     ensures { λ r. ⌜ (r ≡ jumpTable (now (file .entry)) i) × (r ≤ 1048576) ⌝ }
 {
     let at = blocks::group_start(file, table, i, 7);
-    lines::decimal_of(lines::value_at(file, JUMP_TABLE, at))
+    values::decimal_of(lines::value_at(file, JUMP_TABLE, at))
 }
 
 // Whether block i gives its first glabel a size, which is `places::span_size` of its line `text=`.

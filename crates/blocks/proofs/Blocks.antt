@@ -15,7 +15,7 @@ use Rattle.scope.specs.declared.Finding.the-variants.{Clear, At}
 use Rattle.scope.specs.Refusals.{pickFinding}
 use Rattle.scope.specs.Limits.{BLOCK_LIMIT, FILE_LIMIT}
 use Rattle.lines.specs.Lines.{next, lineNumber}
-use Rattle.lines.specs.Values.{numberSound, sectionSound, jumpTableSound}
+use Rattle.values.specs.Values.{numberSound, sectionSound, jumpTableSound}
 use Rattle.lines.specs.Keys.{KEYS, keys, repeats, valueSound, valueAt, isKeyLine}
 use Rattle.lines.proofs.Lines.{end-low, end-high, end-past, whole-lt, next-low, next-high}
 use Rattle.lines.proofs.Keys.{repeats-low, value-section, key-line-not, key-line-whole, key-line-sound}

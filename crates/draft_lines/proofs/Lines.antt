@@ -17,7 +17,7 @@ use Rattle.scope.specs.Codes.{codeName, sectionCodes}
 use Rattle.lines.specs.Lines.{line, next}
 use Rattle.lines.specs.Keys.{keyName, valueAt, isKeyLine}
 use Rattle.lines.proofs.Lines.{line-length, end-low, next-low, next-high, whole-lt}
-use Rattle.lines.proofs.Values.{tail-part}
+use Rattle.values.proofs.Values.{tail-part}
 use Rattle.lines.proofs.Keys.{key-four, key-line-text, key-line-whole}
 use Rattle.draft_lines.specs.Lines.{lined, digitsText, decimalText, sectionLine, nopLines, spaceLine, labelLine, linesFrom, groupLines}
 

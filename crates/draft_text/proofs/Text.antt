@@ -7,7 +7,7 @@ use Prim.Native.Nat.{ℕ, _+_, _-_, _*_, _/_, _≤_, _<_}
 use native.Mathlib.Omega.{arith}
 use lib.ListN.{length, take, drop, length-take, length-drop}
 use Rattle.lines.specs.Lines.{lineEnd, line}
-use Rattle.lines.specs.Values.{spaceIn, labelIn}
+use Rattle.values.specs.Values.{spaceIn, labelIn}
 use Rattle.lines.specs.Keys.{keyName, valueAt}
 use lib.Dec.{eqb}
 use borrow.Author.Tests.{eq-eqb, ne-eqb, lt-ltb}

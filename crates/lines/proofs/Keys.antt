@@ -15,9 +15,9 @@ use Rattle.lists.proofs.Ranges.{and-parts, both, by-lt, by-last, none-first}
 use Rattle.lists.proofs.Strings.{prefixed-true, prefixed-short}
 use Rattle.scope.specs.Text.{text}
 use Rattle.lines.specs.Lines.{lineEnd, isWhole, line}
-use Rattle.lines.specs.Values.{anySound, sectionSound}
+use Rattle.values.specs.Values.{anySound, sectionSound}
 use Rattle.lines.specs.Keys.{keys, keyName, repeats, valueSound, valueAt, isKeyLine}
-use Rattle.lines.proofs.Values.{tail-part}
+use Rattle.values.proofs.Values.{tail-part}
 use Rattle.lines.proofs.Lines.{lt-whole, le-whole}
 
 -- a test that a search over [a, b) found to hold everywhere

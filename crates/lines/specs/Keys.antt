@@ -6,7 +6,7 @@ use lib.ListN.{length, drop, getD}
 use Rattle.lists.specs.Strings.{prefixed}
 use Rattle.scope.specs.Text.{text}
 use Rattle.lines.specs.Lines.{isWhole, line}
-use Rattle.lines.specs.Values.{anySound, sectionSound, labelSound, dummySound, jumpTableSound, emptySound}
+use Rattle.values.specs.Values.{anySound, sectionSound, labelSound, dummySound, jumpTableSound, emptySound}
 
 pub record Key : Type 0 where
   pub name : List ℕ

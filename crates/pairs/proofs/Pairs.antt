@@ -17,7 +17,7 @@ use Rattle.statics.specs.File.{entryPlace, opened, closed, nested, listedIn}
 use Rattle.packed.specs.Packed.{symbolOf, kindOf, relocationInfo, shifted}
 use Rattle.places.specs.Spans.{oddPlace}
 use Rattle.lines.specs.Lines.{feedAt, lineEnd, isWhole, line, next}
-use Rattle.lines.specs.Values.{every, isDigit, isHexDigit, decimalFrom, isNumber, numberSound, spaceAt, spaceIn, labelSound, labelIn, afterLabel, sizeIn, alignIn, spanSound, sectionSound, dummySound, jumpTableSound, emptySound, anySound}
+use Rattle.values.specs.Values.{every, isDigit, isHexDigit, decimalFrom, isNumber, numberSound, spaceAt, spaceIn, labelSound, labelIn, afterLabel, sizeIn, alignIn, spanSound, sectionSound, dummySound, jumpTableSound, emptySound, anySound}
 use Rattle.lines.specs.Keys.{keys, keyName, repeats, valueSound, valueAt, isKeyLine}
 use Rattle.blocks.specs.Blocks.{skipFrom, skip, groupEnd, groupAt, blockAt}
 use Rattle.block_values.specs.BlockValues.{hexDigit, hexFrom, dummy, dummyCount, dummyLine, dummyWord}

@@ -20,9 +20,9 @@ use Rattle.records.specs.declared.symbol.SymbolEntry.{SymbolEntry}
 use Rattle.scope.specs.Limits.{FILE_LIMIT}
 use Rattle.symbols.specs.Symbols.{symbolCount, symbolPlace, symbol, symbolNamed}
 use Rattle.lines.specs.Lines.{line}
-use Rattle.lines.specs.Values.{every, isDigit, decimal, labelIn, sizeIn, alignIn, ALIGN8_LIMIT, sectionSound}
+use Rattle.values.specs.Values.{every, isDigit, decimal, labelIn, sizeIn, alignIn, ALIGN8_LIMIT, sectionSound}
 use Rattle.lines.specs.Keys.{isKeyLine, valueAt}
-use Rattle.lines.proofs.Values.{Parts, tail-part, section-span, sound-span}
+use Rattle.values.proofs.Values.{Parts, tail-part, section-span, sound-span}
 use Rattle.lines.proofs.Keys.{repeats-low, key-line-text}
 use Rattle.blocks.specs.Blocks.{groupAt, blockAt, blockCount}
 use Rattle.blocks.proofs.Blocks.{counted-key, counted-section}

@@ -8,7 +8,7 @@ use lib.Dec.{eqb, ltb}
 use Rattle.lists.specs.Ranges.{first}
 use Rattle.fields.specs.declared.ByteOrder.{ByteOrder}
 use Rattle.symbols.specs.Symbols.{symbolCount, symbol, symbolNamed}
-use Rattle.lines.specs.Values.{decimal, labelIn, sizeIn, alignIn}
+use Rattle.values.specs.Values.{decimal, labelIn, sizeIn, alignIn}
 use Rattle.lines.specs.Keys.{valueAt}
 use Rattle.blocks.specs.Blocks.{groupAt, blockAt}
 

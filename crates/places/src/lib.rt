@@ -39,7 +39,7 @@ pub fn span_label<'a>(file: &'a [u8], table: &[u8], j: usize) -> &'a [u8]
     requires { ⌜ Parsed (now file) (now table) × (j < 4 * blockCount (now file)) ⌝ }
     ensures { λ r. ⌜ now r ≡ spanLabel (now (file .entry)) j ⌝ }
 {
-    lines::label_in(span_value(file, table, j))
+    values::label_in(span_value(file, table, j))
 }
 
 // The size of line j, which has a label.
@@ -47,7 +47,7 @@ pub fn span_size(file: &[u8], table: &[u8], j: usize) -> usize
     requires { ⌜ Parsed (now file) (now table) × (j < 4 * blockCount (now file)) × (labelled (now file) j ≡ true) ⌝ }
     ensures { λ r. ⌜ (r ≡ spanSize (now (file .entry)) j) × (r ≤ 1048576) ⌝ }
 {
-    lines::decimal_of(lines::size_in(span_value(file, table, j)))
+    values::decimal_of(values::size_in(span_value(file, table, j)))
 }
 
 // The align8 of line j, which has a label.
@@ -55,7 +55,7 @@ fn span_align8(file: &[u8], table: &[u8], j: usize) -> usize
     requires { ⌜ Parsed (now file) (now table) × (j < 4 * blockCount (now file)) × (labelled (now file) j ≡ true) ⌝ }
     ensures { λ r. ⌜ (r ≡ spanAlign8 (now (file .entry)) j) × (r ≤ 8) ⌝ }
 {
-    lines::decimal_of(lines::align_in(span_value(file, table, j)))
+    values::decimal_of(values::align_in(span_value(file, table, j)))
 }
 
 // Whether line j has a label.

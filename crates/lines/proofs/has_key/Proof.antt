@@ -3,7 +3,6 @@ use Rattle.lines.specs.Keys.{keyName, keys}
 use Rattle.scope.specs.Text.{text}
 use Rattle.lists.specs.Strings.{prefixed}
 use Rattle.lines.proofs.Keys.{past-four, last-key}
-use native.Mathlib.Omega.{arith}
 use Prim.Native.Nat.{ℕ}
 use mathlib.Core.Path.{_≡_, sym, ap, _∙_}
 use denote.Ref.{now}
@@ -80,61 +79,61 @@ has-prefix-requires-11 c κs = search needs
 returns : tie.Need-returns
 unfolding keyName keys text
 returns c =
-    let e : c .before .before .before .before .args .k ≡ 0 = omega arith in
+    let e : c .before .before .before .before .args .k ≡ 0 = c .before .before .match .keys1 in
     c .has-prefix .ensures ∙ ap (λ (j : ℕ). prefixed (keyName j) (now (c .before .before .before .before .args .line))) (sym e)
 
 returns-2 : tie.Need-returns-2
 unfolding keyName keys text
 returns-2 c =
-    let e : c .before .before .before .before .args .k ≡ 1 = omega arith in
+    let e : c .before .before .before .before .args .k ≡ 1 = c .before .before .match .keys2 in
     c .has-prefix2 .ensures ∙ ap (λ (j : ℕ). prefixed (keyName j) (now (c .before .before .before .before .args .line))) (sym e)
 
 returns-3 : tie.Need-returns-3
 unfolding keyName keys text
 returns-3 c =
-    let e : c .before .before .before .before .args .k ≡ 2 = omega arith in
+    let e : c .before .before .before .before .args .k ≡ 2 = c .before .before .match .keys3 in
     c .has-prefix3 .ensures ∙ ap (λ (j : ℕ). prefixed (keyName j) (now (c .before .before .before .before .args .line))) (sym e)
 
 returns-4 : tie.Need-returns-4
 unfolding keyName keys text
 returns-4 c =
-    let e : c .before .before .before .before .args .k ≡ 3 = omega arith in
+    let e : c .before .before .before .before .args .k ≡ 3 = c .before .before .match .keys4 in
     c .has-prefix4 .ensures ∙ ap (λ (j : ℕ). prefixed (keyName j) (now (c .before .before .before .before .args .line))) (sym e)
 
 returns-5 : tie.Need-returns-5
 unfolding keyName keys text
 returns-5 c =
-    let e : c .before .before .before .before .args .k ≡ 4 = omega arith in
+    let e : c .before .before .before .before .args .k ≡ 4 = c .before .before .match .keys5 in
     c .has-prefix5 .ensures ∙ ap (λ (j : ℕ). prefixed (keyName j) (now (c .before .before .before .before .args .line))) (sym e)
 
 returns-6 : tie.Need-returns-6
 unfolding keyName keys text
 returns-6 c =
-    let e : c .before .before .before .before .args .k ≡ 5 = omega arith in
+    let e : c .before .before .before .before .args .k ≡ 5 = c .before .before .match .keys6 in
     c .has-prefix6 .ensures ∙ ap (λ (j : ℕ). prefixed (keyName j) (now (c .before .before .before .before .args .line))) (sym e)
 
 returns-7 : tie.Need-returns-7
 unfolding keyName keys text
 returns-7 c =
-    let e : c .before .before .before .before .args .k ≡ 6 = omega arith in
+    let e : c .before .before .before .before .args .k ≡ 6 = c .before .before .match .keys7 in
     c .has-prefix7 .ensures ∙ ap (λ (j : ℕ). prefixed (keyName j) (now (c .before .before .before .before .args .line))) (sym e)
 
 returns-8 : tie.Need-returns-8
 unfolding keyName keys text
 returns-8 c =
-    let e : c .before .before .before .before .args .k ≡ 7 = omega arith in
+    let e : c .before .before .before .before .args .k ≡ 7 = c .before .before .match .keys8 in
     c .has-prefix8 .ensures ∙ ap (λ (j : ℕ). prefixed (keyName j) (now (c .before .before .before .before .args .line))) (sym e)
 
 returns-9 : tie.Need-returns-9
 unfolding keyName keys text
 returns-9 c =
-    let e : c .before .before .before .before .args .k ≡ 8 = omega arith in
+    let e : c .before .before .before .before .args .k ≡ 8 = c .before .before .match .keys9 in
     c .has-prefix9 .ensures ∙ ap (λ (j : ℕ). prefixed (keyName j) (now (c .before .before .before .before .args .line))) (sym e)
 
 returns-10 : tie.Need-returns-10
 unfolding keyName keys text
 returns-10 c =
-    let e : c .before .before .before .before .args .k ≡ 9 = omega arith in
+    let e : c .before .before .before .before .args .k ≡ 9 = c .before .before .match .keys10 in
     c .has-prefix10 .ensures ∙ ap (λ (j : ℕ). prefixed (keyName j) (now (c .before .before .before .before .args .line))) (sym e)
 
 returns-11 : tie.Need-returns-11

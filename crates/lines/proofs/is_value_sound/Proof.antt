@@ -1,6 +1,6 @@
 -- `lines::is_value_sound` meets its contract: each arm of the match is a row, or a range of rows, of the table. Assumes nothing.
 use Rattle.lines.specs.Keys.{keys, valueSound}
-use Rattle.lines.specs.Values.{jumpTableSound, emptySound, anySound}
+use Rattle.values.specs.Values.{jumpTableSound, emptySound, anySound}
 use Rattle.lines.proofs.Keys.{value-section, value-late}
 use native.Mathlib.Omega.{arith}
 use Prim.Native.Nat.{ℕ}

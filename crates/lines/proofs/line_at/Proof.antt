@@ -4,6 +4,8 @@ use Rattle.lines.specs.Lines.{line}
 use Rattle.lines.proofs.Lines.{line-past, end-low, end-high}
 use native.Mathlib.Omega.{arith}
 use mathlib.Core.Path.{sym}
+use Prim.Native.Nat.{_-_}
+use lib.ListN.{take, drop}
 use denote.Ref.{now}
 use borrow.Author.Needs.{needs}
 use Rattle.lines.proofs.line_at.Statement.{statement}
@@ -43,7 +45,9 @@ part-result-end-2 c =
 
 returns-2 : tie.Need-returns-2
 unfolding line
-returns-2 c = cc
+returns-2 c =
+    let a = c .before .before .before .before .args in
+    λ k. take (c .before .line-end .ensures k - a .at) (drop (a .at) (now (a .file)))
 
 pub line-at-spec : {M : Type 1} → statement M
 line-at-spec =

@@ -1,5 +1,9 @@
 -- The conjuncts of `headerSound`, from the last to the first. Assumes nothing.
 use Rattle.sections.specs.Headers.{headerSound, unlinked}
+use Rattle.scope.specs.Limits.{ALIGN_LIMIT}
+use mathlib.Core.Bool.{_&&_}
+use mathlib.Core.Path.{_∙_}
+use lib.Dec.{leb}
 use borrow.Author.Needs.{needs}
 use Rattle.sections.proofs.is_header_sound.Statement.{statement}
 use Rattle.sections.proofs.is_header_sound.Tie as tie
@@ -27,7 +31,14 @@ both-requires-4 c κs = search needs
 
 returns : tie.Need-returns
 unfolding headerSound unlinked
-returns c = cc
+returns c =
+    let a = c .before .before .before .before .before .before .before .before .args in
+    let inside = c .before .before .before .before .before .before .has-bytes-inside .ensures in
+    let entries = c .before .before .before .before .has-whole-entries .ensures in
+    let held = c .before .before .before .before .before .both .ensures ∙ (λ k. inside k && leb (a .h .«sh_addralign») ALIGN_LIMIT) in
+    let whole = c .before .before .before .both2 .ensures ∙ (λ k. entries k && held k) in
+    let rest = c .before .before .both3 .ensures ∙ (λ k. unlinked (a .h) && whole k) in
+    c .both4 .ensures ∙ (λ k. c .before .is-null-sound .ensures k && rest k)
 
 pub is-header-sound-spec : {M : Type 1} → statement M
 is-header-sound-spec =
