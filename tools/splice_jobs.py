@@ -4,6 +4,7 @@
   tools/splice_jobs.py               writes crates/splice_jobs/{data/jobs,args,stdout}
   tools/splice_jobs.py SEED COUNT    runs COUNT other jobs, made and damaged, through target/bin/splice_jobs, and compares each answer with the model's and,
                                      where the Rust (oracle/target/release/oracle) merges the job, with the sections of its object
+  tools/splice_jobs.py speed         times both on jobs that grow
 
 A job is a compiled object, an assembled one and a block file. What is expected comes from the model of document 01 (MODEL, by default ../shared/model): the
 refusals of both objects, of the block file and of places, then 11 to 14; or the bytes that the merge writes over C's .text, .data, .rodata and .reginfo, one behind
@@ -15,6 +16,7 @@ import struct
 import subprocess
 import sys
 import tempfile
+import time
 
 TOP = os.path.dirname(os.path.dirname(os.path.abspath(__file__)))
 sys.path.insert(0, os.path.join(TOP, 'tools'))
@@ -265,7 +267,52 @@ def compare(seed, count):
     return wrong != 0
 
 
+def grown(blocks, dummies, table=8):
+    """a job of that many blocks, each with two .text words, that many late words and a jump table"""
+    chance = random.Random(blocks)
+    size, late = 8 * blocks, blocks * (4 * dummies + table)
+    labels = [b'_asmpp_text%d' % i for i in range(blocks)]
+    words = [[0xE0000001 + i * dummies + k for k in range(dummies)] for i in range(blocks)]
+    c = {b'.text': bytes(size), b'.rodata': b''.join(struct.pack(f'>{dummies}I', *w) + bytes(table) for w in words), b'.reginfo': bytes(24)}
+    a = {b'.text': chance.randbytes(size), b'.late_rodata': bytes(8) + chance.randbytes(late), b'.reginfo': bytes(24)}
+    ends = [(label + end, b'.text', at) for i, label in enumerate(labels) for end, at in ((b'_asm_start', 8 * i), (b'_asm_end', 8 * i + 8))]
+    ends += [(LATE_LABELS[0], b'.late_rodata', 8), (LATE_LABELS[1], b'.late_rodata', 8 + late)]
+    file = b''.join(draft_jobs.block(desc=b'grown', text=b'%s 8 0' % label, dummies=[b'%08x' % x for x in w], jtbl=table) for label, w in zip(labels, words))
+    return made(c, [(label, b'.text', 8 * i) for i, label in enumerate(labels)]), made(a, ends), file
+
+
+def seconds(run, times):
+    """the median of some runs"""
+    taken = []
+    for _ in range(times):
+        start = time.perf_counter()
+        run()
+        taken.append(time.perf_counter() - start)
+    return sorted(taken)[times // 2]
+
+
+def speed(copies=20, times=5):
+    """the program's time for a job is that of a list of copies, less that of a list with none; the Rust's is that of a whole merge"""
+    rust, program = Rust(), os.path.join(TOP, 'target', 'bin', 'splice_jobs')
+    print('blocks, late words, bytes: microseconds of the program, of the Rust')
+    with tempfile.NamedTemporaryFile() as none, tempfile.NamedTemporaryFile() as f:
+        run = lambda name: subprocess.run([program, name], stdout=subprocess.DEVNULL, check=True)  # noqa: E731
+        for blocks, dummies in ((10, 3), (125, 30), (250, 30), (500, 30), (1000, 30), (1000, 4), (1000, 8), (1000, 16)):
+            job = grown(blocks, dummies)
+            if rust.sections(*job) != expected(*job)[1]:
+                sys.exit('the Rust has other sections')
+            f.seek(0)
+            f.truncate()
+            f.write(packed(job) * copies)
+            f.flush()
+            ours = (seconds(lambda: run(f.name), times) - seconds(lambda: run(none.name), times)) / copies
+            theirs = seconds(lambda: rust.sections(*job), times)
+            print(f'{blocks}, {blocks * dummies}, {sum(map(len, job))}: {1e6 * ours:.0f}, {1e6 * theirs:.0f}', flush=True)
+
+
 def main():
+    if sys.argv[1:] == ['speed']:
+        return speed()
     if len(sys.argv) == 3:
         sys.exit(compare(int(sys.argv[1]), int(sys.argv[2])))
     jobs = [*made_jobs(1, 6 * len(VARIATIONS)), *damaged_jobs(60, 2), *real_splices()]
