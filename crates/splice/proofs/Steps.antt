@@ -48,11 +48,10 @@ use Rattle.line_up.specs.Lined.{lateLabel, lateStart, lateLined, lineUp, ifLine
 use Rattle.line_up.proofs.Agrees.{agrees-of}
 use Rattle.copies.specs.Copying.{Inside, Copying}
 use Rattle.answers.specs.declared.Outcome.{Outcome}
-use Rattle.answers.specs.Answers.{Answer, refused, outcomeOf}
+use Rattle.answers.specs.Answers.{Answer, refused, outcomeOf, pickAnswer}
 use Rattle.answers.proofs.Answers.{outcome-length, output-zeroed}
 use Rattle.buffers.specs.Buffers.{zeros, zeroedFrom}
-use Rattle.splicer.specs.Answered.{Answered}
-use Rattle.splicer.specs.Verdict.{pickAnswer}
+use Rattle.answers.specs.Answered.{Answered}
 use Rattle.inputs.specs.Read.{Given}
 use Rattle.splice.specs.Verdict.{areShort, ifMoved, lateFinding, sectionBytes, registerBytes, spliceBytes}
 use Rattle.splice.specs.Stage.{Stage, Opened, Spliced}

@@ -1,5 +1,5 @@
 -- The four sections are written where they fit; where they do not, their length is the refusal's place. Assumes nothing.
-use Rattle.splicer.proofs.Answered.{room-there, room-short}
+use Rattle.answers.proofs.Answered.{room-there, room-short}
 use Rattle.splice.proofs.Steps.{held-short, sections-written, sections-unwritten}
 use mathlib.Core.Path.{_≡_, refl, sym, ap, _∙_}
 use Prim.Native.Nat.{ℕ, _+_}
