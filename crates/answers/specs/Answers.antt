@@ -1,7 +1,10 @@
 -- What a call gives back (document 01, "What a call gives back"): a result and its length, or a number, an object and a place.
 use Prim.Native.Nat.{ℕ, _-_}
+use mathlib.Core.Bool.{Bool, true, false}
 use mathlib.Core.List.{List, [], _++_}
 use lib.ListN.{length}
+use lib.Dec.{leb}
+use Rattle.scope.specs.Refusals.{OUTPUT_ROOM}
 use Rattle.buffers.specs.Buffers.{zeros}
 use Rattle.answers.specs.declared.Outcome.{Outcome}
 
@@ -35,3 +38,11 @@ resultOf (refused number object place) = []
 -- the output buffer, of n bytes, on return: the result, and zeros past its length
 unfoldable pub outputOf : Answer → ℕ → List ℕ
 outputOf answer n = resultOf answer ++ zeros (n - length (resultOf answer))
+
+abbrev pub pickAnswer : Bool → Answer → Answer → Answer
+pickAnswer true a b = a
+pickAnswer false a b = b
+
+-- refusal 21: the exact length that is needed
+unfoldable pub roomFor : List ℕ → ℕ → Answer
+roomFor text room = pickAnswer (leb (length text) room) (accepted text) (refused OUTPUT_ROOM NONE (length text))

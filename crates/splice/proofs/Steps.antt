@@ -23,11 +23,10 @@ use Rattle.line_up.specs.declared.LineUp.the-variants.{LinedUp, LacksCompiled, 
 use Rattle.line_up.specs.Lined.{lineUp, ifLined}
 use Rattle.line_up.proofs.Agrees.{agrees-of}
 use Rattle.answers.specs.declared.Outcome.{Outcome}
-use Rattle.answers.specs.Answers.{Answer, refused}
+use Rattle.answers.specs.Answers.{Answer, refused, pickAnswer}
 use Rattle.answers.proofs.Answers.{outcome-length, output-zeroed}
 use Rattle.buffers.specs.Buffers.{zeros, zeroedFrom}
-use Rattle.splicer.specs.Answered.{Answered}
-use Rattle.splicer.specs.Verdict.{pickAnswer}
+use Rattle.answers.specs.Answered.{Answered}
 use Rattle.inputs.specs.Read.{Given}
 use Rattle.splice_sections.specs.Sections.{sectionBytes, rodataBytes, registerBytes}
 use Rattle.splice_sections.specs.Stage.{Stage}

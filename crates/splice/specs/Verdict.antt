@@ -13,8 +13,7 @@ use Rattle.elf.specs.Readers.{orderOf}
 use Rattle.splice_sections.specs.Sections.{lateFinding, sectionBytes, rodataBytes, registerBytes}
 use Rattle.line_up.specs.Lined.{lineUp, ifLined}
 use Rattle.inputs.specs.Inputs.{inputsOf, ifTaken}
-use Rattle.answers.specs.Answers.{Answer, refused, NONE, COMPILED}
-use Rattle.splicer.specs.Verdict.{pickAnswer, roomFor}
+use Rattle.answers.specs.Answers.{Answer, refused, NONE, COMPILED, pickAnswer, roomFor}
 
 -- refusal 1 of the two working buffers that the inputs do not ask for
 unfoldable pub areShort : ℕ → ℕ → Bool

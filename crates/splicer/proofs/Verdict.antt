@@ -9,8 +9,8 @@ use Rattle.object.specs.declared.Checked.{Checked}
 use Rattle.object.specs.declared.Checked.the-variants.{Accepted, Refused}
 use Rattle.places.specs.declared.Placing.{Placing}
 use Rattle.places.specs.declared.Placing.the-variants.{Placed, Misplaced, Misaligned}
-use Rattle.answers.specs.Answers.{Answer, refused}
-use Rattle.splicer.specs.Verdict.{pickAnswer, ifPlaced, ifClear, ifSound}
+use Rattle.answers.specs.Answers.{Answer, refused, pickAnswer}
+use Rattle.splicer.specs.Verdict.{ifPlaced, ifClear, ifSound}
 
 module _ (f : Placing) (rest : Answer) where
   pub placed-rest : f ≡ Placed → rest ≡ ifPlaced f rest

@@ -1,14 +1,12 @@
 -- The draft, whole (document 01, "What a call gives back" and "Order"): 1; C by 2 to 6; 7; blocks by 8 and 9; then 21.
 use Prim.Native.Nat.{ℕ}
-use mathlib.Core.Bool.{Bool, true, false}
 use mathlib.Core.List.{List}
 use lib.ListN.{length}
-use lib.Dec.{leb}
 use Rattle.fields.specs.declared.ByteOrder.{ByteOrder}
 use Rattle.scope.specs.declared.Finding.{Finding}
 use Rattle.scope.specs.declared.Finding.the-variants.{Clear, At}
 use Rattle.scope.specs.Limits.{overLimits}
-use Rattle.scope.specs.Refusals.{LIMITS, BLOCK_FILE, BLOCK_PLACE, BLOCK_ALIGNMENT, OUTPUT_ROOM}
+use Rattle.scope.specs.Refusals.{LIMITS, BLOCK_FILE, BLOCK_PLACE, BLOCK_ALIGNMENT}
 use Rattle.elf.specs.Readers.{orderOf}
 use Rattle.object.specs.declared.Checked.{Checked}
 use Rattle.object.specs.declared.Checked.the-variants.{Accepted, Refused}
@@ -17,16 +15,8 @@ use Rattle.blocks.specs.Blocks.{blockFault}
 use Rattle.places.specs.declared.Placing.{Placing}
 use Rattle.places.specs.declared.Placing.the-variants.{Placed, Misplaced, Misaligned}
 use Rattle.places.specs.Walk.{placing}
-use Rattle.answers.specs.Answers.{Answer, accepted, refused, NONE, COMPILED}
+use Rattle.answers.specs.Answers.{Answer, refused, NONE, COMPILED, pickAnswer, roomFor}
 use Rattle.draft_text.specs.Draft.{draftText}
-
-abbrev pub pickAnswer : Bool → Answer → Answer → Answer
-pickAnswer true a b = a
-pickAnswer false a b = b
-
--- refusal 21: the exact length that is needed
-unfoldable pub roomFor : List ℕ → ℕ → Answer
-roomFor text room = pickAnswer (leb (length text) room) (accepted text) (refused OUTPUT_ROOM NONE (length text))
 
 -- refusals 8 and 9
 unfoldable pub ifPlaced : Placing → Answer → Answer

@@ -1,7 +1,6 @@
 -- The answer is as all the stages left it; then the output past the result and the working buffers are zeroed. Assumes nothing.
-use mathlib.Core.List.{[]}
 use Rattle.buffers.specs.Buffers.{zeros}
-use Rattle.splicer.proofs.Answered.{length-inside}
+use Rattle.answers.proofs.Answered.{length-inside}
 use Rattle.splice.proofs.Steps.{spliced-of}
 use mathlib.Core.Path.{_≡_, refl, sym, ap, _∙_}
 use Prim.Native.Nat.{ℕ, _+_}
@@ -15,7 +14,7 @@ splice-all-requires : tie.Need-splice-all-requires
 splice-all-requires c κs = search needs
 
 zero-from-requires : tie.Need-zero-from-requires
-zero-from-requires c κs = length-inside _ _ _ _ [] [] [] [] [] (c .before .before .before .before .before .before .before .before .before .before .before .splice-all .ensures)
+zero-from-requires c κs = length-inside _ _ _ _ (c .before .before .before .before .before .before .before .before .before .before .before .splice-all .ensures)
 
 zero-requires : tie.Need-zero-requires
 zero-requires c κs = search needs

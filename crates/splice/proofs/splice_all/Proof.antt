@@ -1,6 +1,6 @@
 -- Refusal 1 of the two buffers first; then the rest decides. Assumes nothing.
 use Rattle.splice.specs.Verdict.{spliceVerdict}
-use Rattle.splicer.proofs.Answered.{answered-as, answered-refused}
+use Rattle.answers.proofs.Answered.{answered-as, answered-refused}
 use Rattle.splice.proofs.Steps.{short-late, short-rows, short-rest}
 use mathlib.Core.Path.{_≡_, refl, sym, ap, _∙_}
 use Prim.Native.Nat.{ℕ, _+_}

@@ -1,6 +1,6 @@
 -- Refusals 11, 12 and 13 by the line-up's answer; what they leave is what the later stages ask for. Assumes nothing.
 use Rattle.splice.specs.Verdict.{linedAnswer}
-use Rattle.splicer.proofs.Answered.{answered-as, answered-refused}
+use Rattle.answers.proofs.Answered.{answered-as, answered-refused}
 use Rattle.splice.proofs.Steps.{stage-of, lined-rest, lined-compiled, lined-assembled, lined-12, lined-13}
 use mathlib.Core.Path.{_≡_, refl, sym, ap, _∙_}
 use Prim.Native.Nat.{ℕ, _+_}

@@ -1,6 +1,6 @@
 -- Refusal 14 by the walk's answer; where no block is at fault the sections are written. Assumes nothing.
 use Rattle.splice.specs.Verdict.{movedAnswer}
-use Rattle.splicer.proofs.Answered.{answered-as, answered-refused}
+use Rattle.answers.proofs.Answered.{answered-as, answered-refused}
 use Rattle.splice.proofs.Steps.{moved-rest, moved-14}
 use mathlib.Core.Path.{_≡_, refl, sym, ap, _∙_}
 use Prim.Native.Nat.{ℕ, _+_}

@@ -1,5 +1,5 @@
 -- The four sections are written where they fit; where they do not, their length is the refusal's place. Assumes nothing.
-use Rattle.splicer.proofs.Answered.{room-there, room-short}
+use Rattle.answers.proofs.Answered.{room-there, room-short}
 use Rattle.splice_sections.proofs.Sections.{held-short}
 use Rattle.splice.proofs.Steps.{ends-of, room-written, room-unwritten}
 use mathlib.Core.Path.{ap}

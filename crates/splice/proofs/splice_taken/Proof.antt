@@ -3,7 +3,7 @@ use lib.ListN.{length}
 use Rattle.fields.specs.declared.ByteOrder.{ByteOrder}
 use Rattle.inputs.proofs.Steps.{inputs-given, taken-rest, taken-fault}
 use Rattle.splice.specs.Verdict.{linedAnswer, takenAnswer}
-use Rattle.splicer.proofs.Answered.{answered-as, answered-refused}
+use Rattle.answers.proofs.Answered.{answered-as, answered-refused}
 use Rattle.splice.proofs.Steps.{given-strings, given-opened}
 use mathlib.Core.Path.{_≡_, refl, sym, ap, _∙_}
 use Prim.Native.Nat.{ℕ, _+_}

@@ -1,9 +1,9 @@
 -- The answer is as all the steps left it; then the output past the result and the working buffers are zeroed. Assumes nothing.
 use Rattle.buffers.specs.Buffers.{zeros}
-use Rattle.splicer.proofs.Answered.{length-inside, drafted}
+use Rattle.answers.proofs.Answered.{length-inside}
+use Rattle.splicer.proofs.Drafted.{drafted}
 use Prim.Native.Nat.{zero}
 use mathlib.Core.Path.{ap, _∙_}
-use mathlib.Core.List.{[]}
 use borrow.Author.Needs.{needs}
 use Rattle.splicer.proofs.draft.Statement.{statement}
 use Rattle.splicer.proofs.draft.Tie as tie
@@ -12,7 +12,7 @@ draft-all-requires : tie.Need-draft-all-requires
 draft-all-requires c κs = search needs
 
 zero-from-requires : tie.Need-zero-from-requires
-zero-from-requires c κs = length-inside _ _ _ _ [] [] [] [] [] (c .before .before .before .before .before .before .before .draft-all .ensures)
+zero-from-requires c κs = length-inside _ _ _ _ (c .before .before .before .before .before .before .before .draft-all .ensures)
 
 zero-requires : tie.Need-zero-requires
 zero-requires c κs = search needs

@@ -1,6 +1,6 @@
 -- Refusal 1 first; within its limits the rest of the verdict decides. Assumes nothing.
 use Rattle.splicer.specs.Verdict.{draftVerdict}
-use Rattle.splicer.proofs.Answered.{answered-as, answered-refused}
+use Rattle.answers.proofs.Answered.{answered-as, answered-refused}
 use Rattle.scope.proofs.Limits.{in-limits}
 use Rattle.splicer.proofs.Verdict.{verdict-over, verdict-rest}
 use mathlib.Core.Path.{refl, sym, _∙_}

@@ -1,6 +1,6 @@
 -- Refusal 7 by the block file's fault; a file without one has its table. Assumes nothing.
 use Rattle.blocks.proofs.Table.{parsed-of}
-use Rattle.splicer.proofs.Answered.{answered-as, answered-refused}
+use Rattle.answers.proofs.Answered.{answered-as, answered-refused}
 use Rattle.splicer.proofs.Verdict.{clear-rest, clear-7}
 use mathlib.Core.Path.{refl, sym, _∙_}
 use denote.Ref.{now}

@@ -1,7 +1,7 @@
 -- Refusals 8 and 9 by the walk's answer; where every span is placed the text is made. Assumes nothing.
 use Rattle.places.proofs.Walk.{walked-of}
 use Rattle.splicer.specs.Verdict.{draftFrom}
-use Rattle.splicer.proofs.Answered.{answered-as, answered-refused}
+use Rattle.answers.proofs.Answered.{answered-as, answered-refused}
 use Rattle.splicer.proofs.Verdict.{placed-rest, placed-8, placed-9}
 use mathlib.Core.Path.{refl, sym, _∙_}
 use denote.Ref.{now}

@@ -1,5 +1,5 @@
 -- The text is written where it fits; where it does not, its length is the refusal's place. Assumes nothing.
-use Rattle.splicer.proofs.Answered.{room-there, room-short}
+use Rattle.answers.proofs.Answered.{room-there, room-short}
 use native.Mathlib.Omega.{arith}
 use borrow.Author.Needs.{needs}
 use Rattle.splicer.proofs.draft_room.Statement.{statement}

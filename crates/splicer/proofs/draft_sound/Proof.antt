@@ -2,7 +2,7 @@
 use Rattle.fields.specs.declared.ByteOrder.{ByteOrder}
 use Rattle.blocks.specs.Blocks.{blockFault}
 use Rattle.splicer.specs.Verdict.{ifClear, draftFrom}
-use Rattle.splicer.proofs.Answered.{answered-as, answered-refused}
+use Rattle.answers.proofs.Answered.{answered-as, answered-refused}
 use Rattle.object.proofs.Order.{accepted-headed, accepted-table}
 use Rattle.splicer.proofs.Verdict.{sound-rest, sound-fault}
 use mathlib.Core.Path.{refl, sym, ap, _∙_}

@@ -1,4 +1,4 @@
--- What the steps of a call leave behind, from one step to the call itself. Assumes nothing.
+-- The laws of what the steps of a call leave behind: a refusal, a result that fits or not, and what the call makes of the output. Assumes nothing.
 use mathlib.Core.Path.{_≡_, refl, ap, _∙_}
 use mathlib.Core.List.{List}
 use Prim.Native.Nat.{ℕ, _+_, _≤_, _<_}
@@ -10,12 +10,11 @@ use lib.Dec.{leb}
 use borrow.Author.Tests.{le-leb, lt-leb}
 use Rattle.lists.specs.Windows.{spliced}
 use Rattle.lists.specs.Written.{Written}
-use Rattle.buffers.specs.Buffers.{zeros, zeroedFrom}
+use Rattle.buffers.specs.Buffers.{zeroedFrom}
 use Rattle.answers.specs.declared.Outcome.{Outcome}
-use Rattle.answers.specs.Answers.{Answer, accepted, refused, lengthOutcome, outcomeOf, resultOf}
+use Rattle.answers.specs.Answers.{Answer, accepted, refused, pickAnswer, lengthOutcome, outcomeOf, resultOf, outputOf, roomFor}
+use Rattle.answers.specs.Answered.{Answered}
 use Rattle.answers.proofs.Answers.{outcome-length, output-zeroed}
-use Rattle.splicer.specs.Answered.{Answered, Drafted}
-use Rattle.splicer.specs.Verdict.{pickAnswer, roomFor}
 
 pub answered-as : (a b : Answer) (r : Outcome) (x y : List ℕ) → a ≡ b → Answered a r x y → Answered b r x y
 answered-as a b r x y e p = rw e at p
@@ -55,17 +54,11 @@ module _ (text before after : List ℕ) (n : ℕ) (r : Outcome) (w : Written bef
       let k : length before < length text = omega (arith, long) in
       answered-as (refused 21 0 n) (pickAnswer (leb (length text) (length before)) (accepted text) (refused 21 0 (length text))) r before after (rw (lt-leb _ _ k, ← long)) (answered-refused 21 0 n r before after e (w .long))
 
--- ---- the call: what was answered, with the rest of the output and the working buffers zeroed
+-- the length that crosses the boundary lies in the output
+pub length-inside : (a : Answer) (r : Outcome) (before after : List ℕ) → Answered a r before after → r .length ≤ length after
+length-inside a r before after d = omega (arith, d .fits, d .long, ap (λ (x : Outcome). x .length) (d .outcome), outcome-length a)
 
-module _ (a : Answer) (r : Outcome) (out mid outAfter table tableAfter places placesAfter : List ℕ) (d : Answered a r out mid) where
-  -- the length that crosses the boundary lies in the output
-  pub length-inside : r .length ≤ length mid
-  length-inside = omega (arith, d .fits, d .long, ap (λ (x : Outcome). x .length) (d .outcome), outcome-length a)
-
-  pub drafted : outAfter ≡ zeroedFrom mid (r .length) → tableAfter ≡ zeros (length table) → placesAfter ≡ zeros (length places) → Drafted a r out outAfter table tableAfter places placesAfter
-  drafted o t p = record {
-    outcome = d .outcome;
-    output = o ∙ output-zeroed a mid (length out) (r .length) (ap (λ (x : Outcome). x .length) (d .outcome) ∙ outcome-length a) (d .long) (d .result);
-    tableZero = t;
-    placesZero = p;
-  }
+-- and the output zeroed behind it is what the answer asks for
+pub answered-output : (a : Answer) (r : Outcome) (before after : List ℕ) → Answered a r before after → zeroedFrom after (r .length) ≡ outputOf a (length before)
+answered-output a r before after d =
+    output-zeroed a after (length before) (r .length) (ap (λ (x : Outcome). x .length) (d .outcome) ∙ outcome-length a) (d .long) (d .result)
