@@ -1,8 +1,8 @@
 -- One where the type is in the list, none where it is not. Assumes nothing.
 use native.Mathlib.Omega.{arith}
 use borrow.Author.Needs.{needs}
-use Rattle.statics.proofs.closes.Statement.{statement}
-use Rattle.statics.proofs.closes.Tie as tie
+use Rattle.static_file.proofs.closes.Statement.{statement}
+use Rattle.static_file.proofs.closes.Tie as tie
 
 closes-scope-requires : tie.Need-closes-scope-requires
 closes-scope-requires c κs = search needs

@@ -12,7 +12,7 @@ use Rattle.debug_entries.specs.Entries.{opensScope, closesScope}
 use Rattle.static_table.specs.declared.Static.{Static}
 use Rattle.static_table.specs.Table.{rows, staticsIn, Listed}
 use Rattle.static_entries.specs.Entry.{typeAt, entryFault, listAfter}
-use Rattle.statics.specs.declared.FileEnd.{FileEnd}
+use Rattle.static_file.specs.declared.FileEnd.{FileEnd}
 
 -- entry j
 unfoldable pub entryPlace : ℕ → ℕ → ℕ

@@ -1,12 +1,12 @@
 -- After j turns the first j entries are completed, their statics stand in the table, and the scopes that they open and close are counted. A turn ends the loop
 -- at the first entry at fault. Assumes nothing.
-use Rattle.statics.proofs.File.{Walking, walking-none, walking-long, walking-stop, walking-next, walking-end}
+use Rattle.static_file.proofs.File.{Walking, walking-none, walking-long, walking-stop, walking-next, walking-end}
 use borrow.Author.Needs.{needs}
 use native.Mathlib.Omega.{arith}
 use Prim.Native.Nat.{_-_}
 use denote.Ref.{now}
-use Rattle.statics.proofs.walk_entries.Statement.{statement}
-use Rattle.statics.proofs.walk_entries.Tie as tie
+use Rattle.static_file.proofs.walk_entries.Statement.{statement}
+use Rattle.static_file.proofs.walk_entries.Tie as tie
 
 abbrev Inv-loop : tie.InvT-loop
 Inv-loop order file present head s b m n size table₀ opened₀ closed₀ count₀ names₀ j₀ table opened closed count names j =

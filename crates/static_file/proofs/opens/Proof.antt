@@ -1,8 +1,8 @@
 -- One where the type is in the list, none where it is not. Assumes nothing.
 use native.Mathlib.Omega.{arith}
 use borrow.Author.Needs.{needs}
-use Rattle.statics.proofs.opens.Statement.{statement}
-use Rattle.statics.proofs.opens.Tie as tie
+use Rattle.static_file.proofs.opens.Statement.{statement}
+use Rattle.static_file.proofs.opens.Tie as tie
 
 opens-scope-requires : tie.Need-opens-scope-requires
 opens-scope-requires c κs = search needs

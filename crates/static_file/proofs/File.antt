@@ -22,7 +22,7 @@ use Rattle.static_table.proofs.Table.{length-rows, length-statics}
 use Rattle.static_entries.specs.declared.Step.{Step}
 use Rattle.static_entries.specs.Entry.{typeAt, isStatic, entryFault, listAfter}
 use Rattle.static_entries.specs.Step.{listNext, Stepped}
-use Rattle.statics.specs.File.{entryPlace, opened, closed, nested, balanced, listedIn, faultIn, completedIn, failsIn, FileWalked}
+use Rattle.static_file.specs.File.{entryPlace, opened, closed, nested, balanced, listedIn, faultIn, completedIn, failsIn, FileWalked}
 
 -- ---- lists
 
