@@ -19,8 +19,8 @@ use Rattle.scope.specs.Refusals.{expect}
 use Rattle.elf.specs.Readers.{orderOf, header, sectionCount, contents}
 use Rattle.elf.specs.Bounds.{Headed}
 use Rattle.elf.proofs.Readers.{order-big}
-use Rattle.sections.specs.FileHeader.{fieldFault}
-use Rattle.sections.proofs.FileHeader.{header-long, header-fields}
+use Rattle.file_header.specs.FileHeader.{fieldFault}
+use Rattle.file_header.proofs.FileHeader.{header-long, header-fields}
 use Rattle.symbols.specs.Symbols.{symbolStrings, Table}
 use Rattle.object.specs.declared.View.{View}
 use Rattle.object.specs.declared.Checked.{Checked}

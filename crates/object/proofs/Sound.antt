@@ -14,7 +14,7 @@ use Rattle.records.specs.declared.section.SectionHeader.{SectionHeader}
 use Rattle.scope.specs.declared.Finding.{Finding}
 use Rattle.scope.specs.declared.Finding.the-variants.{Clear, At}
 use Rattle.elf.specs.Readers.{orderOf, sectionCount, section, codedSection}
-use Rattle.sections.specs.FileHeader.{headerFault}
+use Rattle.file_header.specs.FileHeader.{headerFault}
 use Rattle.sections.specs.Headers.{wholeEntries, sectionFault}
 use Rattle.sections.specs.Names.{nameFault, typeFault}
 use Rattle.sections.proofs.Bounds.{counted, sections-sound, sound-entries, headed-of, named-of, names-sound, types-sound}

@@ -7,7 +7,7 @@ use Rattle.scope.specs.declared.Finding.{Finding}
 use Rattle.scope.specs.declared.Finding.the-variants.{Clear, At}
 use Rattle.scope.specs.Refusals.{FILE_HEADER, SECTION_HEADER, SECTION_NAME, SYMBOL_TABLE, RELOCATION_TABLE}
 use Rattle.elf.specs.Readers.{orderOf, header, sectionCount, section, codedSection}
-use Rattle.sections.specs.FileHeader.{headerFault}
+use Rattle.file_header.specs.FileHeader.{headerFault}
 use Rattle.sections.specs.Headers.{sectionFault}
 use Rattle.sections.specs.Names.{nameFault, typeFault}
 use Rattle.symbols.specs.Symbols.{symtab, strtab, symbolCount, symbolPlace}

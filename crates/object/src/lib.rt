@@ -108,7 +108,7 @@ pub fn check(file: &[u8]) -> Checked
     ensures { λ r. ⌜ r ≡ checkOf (now (file .entry)) ⌝ }
 {
     let order = elf::order_of(file);
-    let header = sections::header_fault(order, file);
+    let header = file_header::header_fault(order, file);
     if let Finding::At(place) = header {
         return Checked::Refused(scope::FILE_HEADER, place);
     }

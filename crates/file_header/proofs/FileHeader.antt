@@ -12,7 +12,7 @@ use Rattle.scope.specs.declared.Finding.{Finding}
 use Rattle.scope.specs.declared.Finding.the-variants.{Clear, At}
 use Rattle.scope.specs.Refusals.{expect}
 use Rattle.elf.specs.Readers.{header}
-use Rattle.sections.specs.FileHeader.{fieldFault, headerFault}
+use Rattle.file_header.specs.FileHeader.{fieldFault, headerFault}
 
 -- one test in front of the others
 pub expected-then : (b : Bool) (place : ℕ) (rest rest′ r : Finding) → r ≡ expect b place rest → rest ≡ rest′ → r ≡ expect b place rest′

@@ -1,9 +1,9 @@
 -- The twelve tests, from the last to the first, make the chain of `fieldFault`. Assumes nothing.
-use Rattle.sections.specs.FileHeader.{fieldFault}
-use Rattle.sections.proofs.FileHeader.{expected-then}
+use Rattle.file_header.specs.FileHeader.{fieldFault}
+use Rattle.file_header.proofs.FileHeader.{expected-then}
 use borrow.Author.Needs.{needs}
-use Rattle.sections.proofs.field_fault.Statement.{statement}
-use Rattle.sections.proofs.field_fault.Tie as tie
+use Rattle.file_header.proofs.field_fault.Statement.{statement}
+use Rattle.file_header.proofs.field_fault.Tie as tie
 
 expected-requires : tie.Need-expected-requires
 expected-requires c κs = search needs

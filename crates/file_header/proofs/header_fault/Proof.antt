@@ -1,13 +1,13 @@
 -- A short file has its length as the place; a whole header is tested field by field. Assumes nothing.
-use Rattle.sections.specs.FileHeader.{fieldFault}
-use Rattle.sections.proofs.FileHeader.{header-short, header-whole}
+use Rattle.file_header.specs.FileHeader.{fieldFault}
+use Rattle.file_header.proofs.FileHeader.{header-short, header-whole}
 use Rattle.elf.specs.Readers.{header}
 use native.Mathlib.Omega.{arith}
 use mathlib.Core.Path.{ap, _∙_}
 use denote.Ref.{now}
 use borrow.Author.Needs.{needs}
-use Rattle.sections.proofs.header_fault.Statement.{statement}
-use Rattle.sections.proofs.header_fault.Tie as tie
+use Rattle.file_header.proofs.header_fault.Statement.{statement}
+use Rattle.file_header.proofs.header_fault.Tie as tie
 
 returns : tie.Need-returns
 returns c = header-short (c .before .before .args .order) (now (c .before .before .args .file)) (c .if1 .taken)
