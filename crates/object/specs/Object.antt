@@ -11,7 +11,7 @@ use Rattle.file_header.specs.FileHeader.{headerFault}
 use Rattle.sections.specs.Headers.{sectionFault}
 use Rattle.sections.specs.Names.{nameFault, typeFault}
 use Rattle.symbols.specs.Symbols.{symtab, strtab, symbolCount, symbolPlace}
-use Rattle.symbols.specs.Faults.{symbolFault}
+use Rattle.symbol_faults.specs.Faults.{symbolFault}
 use Rattle.relocations.specs.Relocations.{relocationFault}
 use Rattle.object.specs.declared.View.{View}
 use Rattle.object.specs.declared.Checked.{Checked}

@@ -76,7 +76,7 @@ fn check_tables(order: ByteOrder, file: &[u8]) -> Checked
     requires { ⌜ Named order (now file) ⌝ }
     ensures { λ r. ⌜ r ≡ checkTables order (now (file .entry)) ⌝ }
 {
-    let symbols = symbols::symbol_fault(order, file);
+    let symbols = symbol_faults::symbol_fault(order, file);
     if let Finding::At(place) = symbols {
         return Checked::Refused(scope::SYMBOL_TABLE, place);
     }

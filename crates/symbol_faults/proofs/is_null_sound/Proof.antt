@@ -1,11 +1,11 @@
 -- Entry 0 has its fields and its name tested; any other entry passes. Assumes nothing.
 use Rattle.symbols.proofs.Symbols.{name-read}
-use Rattle.symbols.proofs.Faults.{null-there, null-other}
+use Rattle.symbol_faults.proofs.Faults.{null-there, null-other}
 use mathlib.Core.Path.{_∙_}
 use denote.Ref.{now}
 use borrow.Author.Needs.{needs}
-use Rattle.symbols.proofs.is_null_sound.Statement.{statement}
-use Rattle.symbols.proofs.is_null_sound.Tie as tie
+use Rattle.symbol_faults.proofs.is_null_sound.Statement.{statement}
+use Rattle.symbol_faults.proofs.is_null_sound.Tie as tie
 
 symbol-at-requires : tie.Need-symbol-at-requires
 symbol-at-requires c κs = search needs

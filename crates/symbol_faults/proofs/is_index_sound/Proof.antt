@@ -1,9 +1,9 @@
 -- An index below the count passes; any other has both bounds of the reserved ones tested. Assumes nothing.
-use Rattle.symbols.proofs.Faults.{index-there, index-reserved}
+use Rattle.symbol_faults.proofs.Faults.{index-there, index-reserved}
 use mathlib.Core.Path.{_∙_}
 use borrow.Author.Needs.{needs}
-use Rattle.symbols.proofs.is_index_sound.Statement.{statement}
-use Rattle.symbols.proofs.is_index_sound.Tie as tie
+use Rattle.symbol_faults.proofs.is_index_sound.Statement.{statement}
+use Rattle.symbol_faults.proofs.is_index_sound.Tie as tie
 
 returns : tie.Need-returns
 returns c = index-there (c .before .args .count) (c .before .args .x) (c .if1 .taken)

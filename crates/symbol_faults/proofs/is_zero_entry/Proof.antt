@@ -1,8 +1,8 @@
 -- The six tests are joined from the last to the first, as `zeroEntry` nests them. Assumes nothing.
-use Rattle.symbols.proofs.Faults.{zero-read}
+use Rattle.symbol_faults.proofs.Faults.{zero-read}
 use borrow.Author.Needs.{needs}
-use Rattle.symbols.proofs.is_zero_entry.Statement.{statement}
-use Rattle.symbols.proofs.is_zero_entry.Tie as tie
+use Rattle.symbol_faults.proofs.is_zero_entry.Statement.{statement}
+use Rattle.symbol_faults.proofs.is_zero_entry.Tie as tie
 
 both-requires : tie.Need-both-requires
 both-requires c κs = search needs

@@ -1,10 +1,10 @@
 -- The conjuncts of `tableSound`: the table is there, and its header has the tests joined from the last to the first. Assumes nothing.
-use Rattle.symbols.proofs.Faults.{table-there, table-past}
+use Rattle.symbol_faults.proofs.Faults.{table-there, table-past}
 use native.Mathlib.Omega.{arith}
 use denote.Ref.{now}
 use borrow.Author.Needs.{needs}
-use Rattle.symbols.proofs.is_table_sound.Statement.{statement}
-use Rattle.symbols.proofs.is_table_sound.Tie as tie
+use Rattle.symbol_faults.proofs.is_table_sound.Statement.{statement}
+use Rattle.symbol_faults.proofs.is_table_sound.Tie as tie
 
 symtab-index-requires : tie.Need-symtab-index-requires
 symtab-index-requires c κs = search needs

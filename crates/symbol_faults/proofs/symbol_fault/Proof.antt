@@ -1,10 +1,10 @@
 -- A table that is not sound is the fault at 0; in a sound one the first bad symbol is. A sound table lies inside the file. Assumes nothing.
-use Rattle.symbols.proofs.Faults.{tabled-of, fault-table, fault-first}
+use Rattle.symbol_faults.proofs.Faults.{tabled-of, fault-table, fault-first}
 use mathlib.Core.Path.{sym, _∙_}
 use denote.Ref.{now}
 use borrow.Author.Needs.{needs}
-use Rattle.symbols.proofs.symbol_fault.Statement.{statement}
-use Rattle.symbols.proofs.symbol_fault.Tie as tie
+use Rattle.symbol_faults.proofs.symbol_fault.Statement.{statement}
+use Rattle.symbol_faults.proofs.symbol_fault.Tie as tie
 
 is-table-sound-requires : tie.Need-is-table-sound-requires
 is-table-sound-requires c κs = search needs

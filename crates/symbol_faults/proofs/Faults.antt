@@ -24,9 +24,9 @@ use Rattle.scope.proofs.Refusals.{expect-clear, expect-true, expect-false, none
 use Rattle.elf.specs.Readers.{sectionCount, section, isStrtab}
 use Rattle.elf.specs.Bounds.{Headed}
 use Rattle.elf.proofs.Readers.{strtab-lt}
 use Rattle.symbols.specs.Symbols.{symtab, symbolCount, symbolPlace, symbol, strtab, symbolStrings, symbolName, Tabled}
-use Rattle.symbols.specs.Faults.{zeroEntry, indexSound, tableSound, nullSound, symbolSound, badSymbol, symbolFault}
+use Rattle.symbol_faults.specs.Faults.{zeroEntry, indexSound, tableSound, nullSound, symbolSound, badSymbol, symbolFault}
 use Rattle.symbols.proofs.Symbols.{symtab-type, count-read, link-read}
 
 -- ---- the tests, from what is in hand
 

@@ -1,9 +1,9 @@
 -- The three tests of `symbolSound`; a name that starts below the place past the last zero byte has an end. Assumes nothing.
-use Rattle.symbols.proofs.Faults.{sound-read}
+use Rattle.symbol_faults.proofs.Faults.{sound-read}
 use denote.Ref.{now}
 use borrow.Author.Needs.{needs}
-use Rattle.symbols.proofs.is_symbol_sound.Statement.{statement}
-use Rattle.symbols.proofs.is_symbol_sound.Tie as tie
+use Rattle.symbol_faults.proofs.is_symbol_sound.Statement.{statement}
+use Rattle.symbol_faults.proofs.is_symbol_sound.Tie as tie
 
 symbol-at-requires : tie.Need-symbol-at-requires
 symbol-at-requires c κs = search needs

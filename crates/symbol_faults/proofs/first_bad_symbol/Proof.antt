@@ -1,15 +1,15 @@
 -- A search for the first symbol that is not as it must be: every symbol before k is. Assumes nothing.
 use Rattle.lists.specs.Ranges.{first}
 use Rattle.lists.proofs.Ranges.{first-here, first-next, first-end}
-use Rattle.symbols.specs.Faults.{badSymbol}
-use Rattle.symbols.proofs.Faults.{bad-yes, bad-no, bad-found}
+use Rattle.symbol_faults.specs.Faults.{badSymbol}
+use Rattle.symbol_faults.proofs.Faults.{bad-yes, bad-no, bad-found}
 use borrow.Author.Needs.{needs}
 use native.Mathlib.Omega.{arith}
 use Prim.Native.Nat.{_-_, _≤_}
 use mathlib.Core.Path.{_≡_, refl, sym, _∙_}
 use denote.Ref.{now}
-use Rattle.symbols.proofs.first_bad_symbol.Statement.{statement}
-use Rattle.symbols.proofs.first_bad_symbol.Tie as tie
+use Rattle.symbol_faults.proofs.first_bad_symbol.Statement.{statement}
+use Rattle.symbol_faults.proofs.first_bad_symbol.Tie as tie
 
 abbrev Inv-loop : tie.InvT-loop
 Inv-loop order file base n strings ends sections k₀ k = (k ≤ n) × (first (badSymbol order file) 0 n ≡ first (badSymbol order file) k n)
