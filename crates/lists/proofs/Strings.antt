@@ -2,7 +2,7 @@
 -- where a name ends, and which names a table keeps when another is appended to it. Assumes nothing.
 use Prim.Native.Nat.{ℕ, suc, _+_, _-_, _≤_, _<_}
 use mathlib.Core.Path.{_≡_, refl, sym, ap, _∙_}
-use mathlib.Core.Bool.{true, false, _&&_, and-assoc}
+use mathlib.Core.Bool.{true, false}
 use mathlib.Core.List.{List, [], _∷_, _++_}
 use native.Mathlib.Nat.{sub-zero}
 use native.Mathlib.Omega.{arith}
@@ -63,13 +63,6 @@ module _ (a b : List ℕ) (i : ℕ) where
 
   pub same-end : length a ≤ i → length b ≤ i → same (drop i a) (drop i b) ≡ true
   same-end h k = same-eq _ _ (drop-of-length-le a h ∙ sym (drop-of-length-le b k))
-
--- a string is two joined where its front is the first and the rest is the second
-pub same-append : (s a b : List ℕ) → same s (a ++ b) ≡ (same (take (length a) s) a && same (drop (length a) s) b)
-unfolding same
-same-append s [] b = refl
-same-append [] (x ∷ a) b = refl
-same-append (y ∷ s) (x ∷ a) b = rw (same-append s a b) (sym (and-assoc (eqb y x) _ _))
 
 pub prefixed-true : (p s : List ℕ) → prefixed p s ≡ true → s ≡ p ++ drop (length p) s
 unfolding prefixed

@@ -14,13 +14,13 @@ use Rattle.records.specs.declared.section.SectionHeader.{SectionHeader}
 use Rattle.scope.specs.declared.Finding.{Finding}
 use Rattle.scope.specs.declared.Finding.the-variants.{Clear, At}
 use Rattle.elf.specs.Readers.{orderOf, sectionCount, section, codedSection}
-use Rattle.sections.specs.FileHeader.{headerFault}
+use Rattle.file_header.specs.FileHeader.{headerFault}
 use Rattle.sections.specs.Headers.{wholeEntries, sectionFault}
 use Rattle.sections.specs.Names.{nameFault, typeFault}
 use Rattle.sections.proofs.Bounds.{counted, sections-sound, sound-entries, headed-of, named-of, names-sound, types-sound}
 use Rattle.symbols.specs.Symbols.{symtab, symbolCount}
-use Rattle.symbols.specs.Faults.{symbolFault}
-use Rattle.symbols.proofs.Faults.{fault-sound, fault-tabled, fault-symbols, sound-table, sound-strtab, sound-end, sound-index, sound-zero, sound-unnamed}
+use Rattle.symbol_faults.specs.Faults.{symbolFault}
+use Rattle.symbol_faults.proofs.Faults.{fault-sound, fault-tabled, fault-symbols, sound-table, sound-strtab, sound-end, sound-index, sound-zero, sound-unnamed}
 use Rattle.relocations.specs.Relocations.{isTable, entrySize, relocationCount, relocationFault}
 use Rattle.relocations.proofs.Relocations.{fault-tables, sound-entsize, size-cases}
 use Rattle.object.specs.declared.View.{View}

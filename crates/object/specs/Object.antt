@@ -7,11 +7,11 @@ use Rattle.scope.specs.declared.Finding.{Finding}
 use Rattle.scope.specs.declared.Finding.the-variants.{Clear, At}
 use Rattle.scope.specs.Refusals.{FILE_HEADER, SECTION_HEADER, SECTION_NAME, SYMBOL_TABLE, RELOCATION_TABLE}
 use Rattle.elf.specs.Readers.{orderOf, header, sectionCount, section, codedSection}
-use Rattle.sections.specs.FileHeader.{headerFault}
+use Rattle.file_header.specs.FileHeader.{headerFault}
 use Rattle.sections.specs.Headers.{sectionFault}
 use Rattle.sections.specs.Names.{nameFault, typeFault}
 use Rattle.symbols.specs.Symbols.{symtab, strtab, symbolCount, symbolPlace}
-use Rattle.symbols.specs.Faults.{symbolFault}
+use Rattle.symbol_faults.specs.Faults.{symbolFault}
 use Rattle.relocations.specs.Relocations.{relocationFault}
 use Rattle.object.specs.declared.View.{View}
 use Rattle.object.specs.declared.Checked.{Checked}

@@ -11,7 +11,7 @@ use Rattle.elf.specs.Readers.{sectionCount, section, sectionStrings, sectionNam
 use Rattle.elf.specs.Bounds.{Named}
 use Rattle.sections.specs.Headers.{headerSound, sectionSound}
 use Rattle.symbols.specs.Symbols.{symtab, strtab, symbolCount, symbol, symbolStrings, symbolName, Tabled}
-use Rattle.symbols.specs.Faults.{zeroEntry, indexSound}
+use Rattle.symbol_faults.specs.Faults.{zeroEntry, indexSound}
 use Rattle.relocations.specs.Relocations.{isTable, tableSound, entrySize, relocationCount}
 
 pub record Sound (o : ByteOrder) (F : List ℕ) : Type 0 where

@@ -76,7 +76,7 @@ fn check_tables(order: ByteOrder, file: &[u8]) -> Checked
     requires { ⌜ Named order (now file) ⌝ }
     ensures { λ r. ⌜ r ≡ checkTables order (now (file .entry)) ⌝ }
 {
-    let symbols = symbols::symbol_fault(order, file);
+    let symbols = symbol_faults::symbol_fault(order, file);
     if let Finding::At(place) = symbols {
         return Checked::Refused(scope::SYMBOL_TABLE, place);
     }
@@ -108,7 +108,7 @@ pub fn check(file: &[u8]) -> Checked
     ensures { λ r. ⌜ r ≡ checkOf (now (file .entry)) ⌝ }
 {
     let order = elf::order_of(file);
-    let header = sections::header_fault(order, file);
+    let header = file_header::header_fault(order, file);
     if let Finding::At(place) = header {
         return Checked::Refused(scope::FILE_HEADER, place);
     }

@@ -13,7 +13,7 @@ use Rattle.debug_entries.specs.Entries.{entryAt, among, listsStatic, opensScope
 use Rattle.debug_shift.specs.Shift.{isOffset, moves, movedWord}
 use Rattle.static_table.specs.Statics.{storedName, countTail, workingName, isNamesake, namesakes, writtenLength, namesLength}
 use Rattle.static_entries.specs.Entry.{nth, countOf, staticFrom, typeAt, isStatic, nameStart, listAfter}
-use Rattle.statics.specs.File.{entryPlace, opened, closed, nested, listedIn}
+use Rattle.static_file.specs.File.{entryPlace, opened, closed, nested, listedIn}
 use Rattle.packed.specs.Packed.{symbolOf, kindOf, relocationInfo, shifted}
 use Rattle.places.specs.Spans.{oddPlace}
 use Rattle.lines.specs.Lines.{feedAt, lineEnd, isWhole, line, next}

@@ -21,10 +21,10 @@ use Rattle.scope.proofs.Refusals.{expect-clear, found-clear, none-found}
 use Rattle.elf.specs.Readers.{header, sectionCount, headerPlace, section, isStrtab, sectionStrings, sectionName, codedSection}
 use Rattle.elf.specs.Bounds.{Headed, Named}
 use Rattle.elf.proofs.Readers.{strtab-lt}
-use Rattle.sections.specs.FileHeader.{headerFault}
+use Rattle.file_header.specs.FileHeader.{headerFault}
 use Rattle.sections.specs.Headers.{nullSound, unlinked, wholeEntries, bytesInside, headerSound, sectionSound, badSection, countSound, sectionFault}
 use Rattle.sections.specs.Names.{nameSound, badName, nameFault, mistyped, codedAfter, typeFault}
-use Rattle.sections.proofs.FileHeader.{header-long}
+use Rattle.file_header.proofs.FileHeader.{header-long}
 
 module _ (o : ByteOrder) (F : List ℕ) where
   -- ---- sections

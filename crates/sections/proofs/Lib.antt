@@ -1,4 +1,3 @@
-pub mod FileHeader
 pub mod Headers
 pub mod Names
 pub mod Bounds

@@ -1,3 +1,2 @@
-pub mod FileHeader
 pub mod Headers
 pub mod Names

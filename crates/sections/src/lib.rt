@@ -1,5 +1,5 @@
-// Document 01's checks of an object's headers and section names: refusals 2, 3, 4 and 3 by name, each equal to its definition in specs/.
-// They are called in that order, and each requires what the ones before it found.
+// Document 01's checks of an object's section headers and section names: refusals 3, 4 and 3 by name, each equal to its definition in specs/.
+// They are called in that order, behind refusal 2, and each requires what the ones before it found.
 ghost use mathlib.Core.Path.{_≡_};
 ghost use mathlib.Core.Bool.{cond};
 ghost use Prim.Native.Nat.{_+_, min, _≤_, _<_};
@@ -7,43 +7,11 @@ ghost use lib.ListN.{length};
 ghost use Rattle.lists.specs.Ranges.{first};
 ghost use Rattle.elf.specs.Readers.{sectionCount, sectionStrings};
 ghost use Rattle.elf.specs.Bounds.{Headed, Named};
-ghost use Rattle.sections.specs.FileHeader.{fieldFault, headerFault};
 ghost use Rattle.sections.specs.Headers.{nullSound, wholeEntries, bytesInside, headerSound, sectionSound, badSection, countSound, sectionFault};
 ghost use Rattle.sections.specs.Names.{nameSound, badName, nameFault, mistyped, codedAfter, typeFault, Naming};
 use fields::ByteOrder;
-use records::ElfHeader;
 use records::SectionHeader;
 use scope::Finding;
-
-// The first field of a file header that is not as it must be.
-fn field_fault(h: ElfHeader) -> Finding
-    ensures { λ r. ⌜ r ≡ fieldFault h ⌝ }
-{
-    let ident = h.e_ident;
-    let r = Finding::Clear;
-    let r = scope::expected(h.e_shstrndx != 0, 50, r);
-    let r = scope::expected(h.e_shentsize == 40, 46, r);
-    let r = scope::expected(h.e_shoff != 0, 32, r);
-    let r = scope::expected(h.e_phoff == 0, 28, r);
-    let r = scope::expected(h.e_machine == scope::EM_MIPS, 18, r);
-    let r = scope::expected(h.e_type == scope::ET_REL, 16, r);
-    let r = scope::expected(ident[5] == scope::ELFDATA2MSB, 5, r);
-    let r = scope::expected(ident[4] == scope::ELFCLASS32, 4, r);
-    let r = scope::expected(ident[3] == 0x46, 3, r);
-    let r = scope::expected(ident[2] == 0x4c, 2, r);
-    let r = scope::expected(ident[1] == 0x45, 1, r);
-    scope::expected(ident[0] == 0x7f, 0, r)
-}
-
-// Refusal 2.
-pub fn header_fault(order: ByteOrder, file: &[u8]) -> Finding
-    ensures { λ r. ⌜ r ≡ headerFault order (now (file .entry)) ⌝ }
-{
-    if file.len() < ElfHeader::SIZE {
-        return Finding::At(file.len());
-    }
-    field_fault(ElfHeader::new(order, file, 0))
-}
 
 // Whether section i is of type 0 exactly where it is section 0, and that one has no size.
 fn is_null_sound(i: usize, h: SectionHeader) -> bool

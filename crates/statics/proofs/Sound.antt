@@ -19,10 +19,10 @@ use Rattle.static_table.specs.declared.Static.{Static}
 use Rattle.static_table.specs.Statics.{storedName, namesLength, namesakes}
 use Rattle.static_table.proofs.Statics.{numbered-next}
 use Rattle.static_entries.specs.Entry.{nth, countOf, staticFrom, nameSound, entryInside, isStatic, hasSection, nameStart, listable, entryFault, listAfter}
-use Rattle.statics.specs.File.{entryPlace, nested, listedIn, faultIn, completedIn}
+use Rattle.static_file.specs.File.{entryPlace, nested, listedIn, faultIn, completedIn}
 use Rattle.statics.specs.Walk.{entryCount, entriesStart, namesStart, listedBefore, descriptorInside, completed, fileFault, faultyFile, walkList, debugPart, debugList, readsStatics, statics}
 use Rattle.statics.specs.Sound.{StaticSound, StaticsSound}
-use Rattle.statics.proofs.File.{listed-zero}
+use Rattle.static_file.proofs.File.{listed-zero}
 use Rattle.statics.proofs.Walk.{all-completed}
 
 -- ---- one static more

@@ -24,10 +24,10 @@ use Rattle.scope.specs.Refusals.{expect}
 use Rattle.static_table.specs.declared.Static.{Static}
 use Rattle.static_table.specs.Table.{rows, staticsIn, Listed}
 use Rattle.static_table.proofs.Table.{length-statics, statics-none, rows-none, listed-none}
-use Rattle.statics.specs.declared.FileEnd.{FileEnd}
-use Rattle.statics.specs.File.{listedIn, completedIn, failsIn, FileWalked}
+use Rattle.static_file.specs.declared.FileEnd.{FileEnd}
+use Rattle.static_file.specs.File.{listedIn, completedIn, failsIn, FileWalked}
 use Rattle.statics.specs.Walk.{descriptorPlace, descriptorInside, fileRecord, entryCount, entriesBefore, entriesStart, namesStart, listedBefore, completed, fileFault, faultyFile, walkFault, walkList, FileListed, Answered, debugSection, hasDebug, debugPart, debugFault, debugList, readsStatics, staticsFault, statics, noStatics}
-use Rattle.statics.proofs.File.{listed-zero, listed-longer, completed-le, clear-completed, tables-then}
+use Rattle.static_file.proofs.File.{listed-zero, listed-longer, completed-le, clear-completed, tables-then}
 
 -- ---- one file
 

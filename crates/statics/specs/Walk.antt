@@ -19,9 +19,9 @@ use Rattle.debug_entries.specs.declared.FileRecord.{FileRecord}
 use Rattle.debug_entries.specs.Entries.{tablesIn, fileAt}
 use Rattle.static_table.specs.declared.Static.{Static}
 use Rattle.static_table.specs.Table.{rows, staticsIn, Listed}
-use Rattle.statics.specs.declared.FileEnd.{FileEnd}
+use Rattle.static_file.specs.declared.FileEnd.{FileEnd}
 use Rattle.statics.specs.declared.Listing.{Listing}
-use Rattle.statics.specs.File.{listedIn, completedIn, failsIn}
+use Rattle.static_file.specs.File.{listedIn, completedIn, failsIn}
 
 -- file i of the tables t
 module _ (o : ByteOrder) (C : List ℕ) (t : Tables) where

@@ -1,2 +1,1 @@
 pub mod Symbols
-pub mod Faults

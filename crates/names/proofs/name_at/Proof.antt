@@ -3,6 +3,8 @@
 use borrow.Author.Needs.{needs}
 use native.Mathlib.Omega.{arith}
 use mathlib.Core.Path.{sym}
+use Prim.Native.Nat.{_-_}
+use lib.ListN.{take, drop}
 use denote.Ref.{now}
 use Rattle.lists.specs.Strings.{nameAt}
 use Rattle.lists.proofs.Strings.{name-past, end-low, end-high}
@@ -43,7 +45,9 @@ part-result-end-2 c =
 
 returns-2 : tie.Need-returns-2
 unfolding nameAt
-returns-2 c = cc
+returns-2 c =
+    let a = c .before .before .before .before .args in
+    λ k. take (c .before .end-of .ensures k - a .at) (drop (a .at) (now (a .t)))
 
 pub name-at-spec : {M : Type 1} → statement M
 name-at-spec =

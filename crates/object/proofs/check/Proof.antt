@@ -1,6 +1,6 @@
 -- Refusal 2, then 3, then the names, in the byte order that the file states. Assumes nothing.
 use Rattle.sections.proofs.Bounds.{headed-of}
-use Rattle.sections.proofs.FileHeader.{header-long}
+use Rattle.file_header.proofs.FileHeader.{header-long}
 use Rattle.object.specs.Object.{checkIn}
 use Rattle.object.proofs.Object.{refuse-at, refuse-clear, check-in}
 use mathlib.Core.Path.{sym, _∙_}

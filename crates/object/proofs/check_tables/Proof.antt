@@ -1,5 +1,5 @@
 -- Refusal 5, then 6; what they leave true gives the view its bounds. Assumes nothing.
-use Rattle.symbols.proofs.Faults.{fault-tabled}
+use Rattle.symbol_faults.proofs.Faults.{fault-tabled}
 use Rattle.object.specs.Object.{checkTables}
 use Rattle.object.specs.declared.Checked.the-variants.{Accepted}
 use Rattle.object.proofs.Object.{refuse-at, refuse-clear}
