@@ -26,8 +26,9 @@ use Rattle.object.specs.declared.View.{View}
 use Rattle.object.specs.Object.{viewOf}
 use Rattle.blocks.specs.Blocks.{blockCount}
 use Rattle.places.specs.Spans.{endAt}
+use Rattle.places.specs.Walk.{Laid}
 use Rattle.spans.specs.Spans.{coded, copied, lineCount, isSpan, spanEnd, lastEnd}
-use Rattle.spans.specs.Table.{spanFrom, Laid, Gathered, Rows}
+use Rattle.spans.specs.Table.{spanFrom, Gathered, Rows}
 use Rattle.spans.proofs.Spans.{length-copied, copied-past}
 use Rattle.spans.proofs.Table.{from-span, from-end, rows-of}
 use Rattle.reginfo.specs.Reginfo.{joined}
