@@ -6,13 +6,12 @@ use native.Mathlib.Omega.{arith}
 use native.Mathlib.Nat.{zero-add}
 use lib.ListN.{length, take, drop}
 use lib.Seq.{take-at}
-use lib.Dec.{leb}
 use borrow.Author.Tests.{le-leb, lt-leb}
 use Rattle.lists.specs.Windows.{spliced}
 use Rattle.lists.specs.Written.{Written}
 use Rattle.buffers.specs.Buffers.{zeroedFrom}
 use Rattle.answers.specs.declared.Outcome.{Outcome}
-use Rattle.answers.specs.Answers.{Answer, accepted, refused, pickAnswer, lengthOutcome, outcomeOf, resultOf, outputOf, roomFor}
+use Rattle.answers.specs.Answers.{Answer, accepted, refused, lengthOutcome, outcomeOf, resultOf, outputOf, roomFor}
 use Rattle.answers.specs.Answered.{Answered}
 use Rattle.answers.proofs.Answers.{outcome-length, output-zeroed}
 
@@ -43,16 +42,13 @@ module _ (text before after : List ℕ) (n : ℕ) (r : Outcome) (w : Written bef
   unfolding roomFor
   room-there h e =
       let k : length text ≤ length before = omega (arith, long) in
-      answered-as (accepted text) (pickAnswer (leb (length text) (length before)) (accepted text) (refused 21 0 (length text))) r before after (rw (le-leb _ _ k)) (whole k)
-    where
-      whole : length text ≤ length before → Answered (accepted text) r before after
-      whole k = accepted-whole text before after r (e ∙ ap lengthOutcome long) (w .long) k (front k)
+      rw (le-leb _ _ k) (accepted-whole text before after r (e ∙ ap lengthOutcome long) (w .long) k (front k))
 
   pub room-short : length before < n → r ≡ outcomeOf (refused 21 0 n) → Answered (roomFor text (length before)) r before after
   unfolding roomFor
   room-short h e =
       let k : length before < length text = omega (arith, long) in
-      answered-as (refused 21 0 n) (pickAnswer (leb (length text) (length before)) (accepted text) (refused 21 0 (length text))) r before after (rw (lt-leb _ _ k, ← long)) (answered-refused 21 0 n r before after e (w .long))
+      rw (lt-leb _ _ k, ← long) (answered-refused 21 0 n r before after e (w .long))
 
 -- the length that crosses the boundary lies in the output
 pub length-inside : (a : Answer) (r : Outcome) (before after : List ℕ) → Answered a r before after → r .length ≤ length after

@@ -9,8 +9,8 @@ use lib.ListN.{length, drop, getD, set, replicate}
 use Rattle.lists.specs.Ranges.{first, select}
 use Rattle.lists.specs.Windows.{Within, spliced}
 use Rattle.lists.specs.Records.{flat}
-use Rattle.lists.proofs.Ranges.{first-here, first-next, first-end, by-lt, gather-zero, gather-yes, gather-split, select-zero, gather-all-length, select-all-at, select-all-length, select-all-put}
-use Rattle.lists.proofs.Windows.{within-at, within-second, within-head, within-within, within-fits, within-spliced, length-spliced, spliced-nil, spliced-then}
+use Rattle.lists.proofs.Ranges.{first-here, first-next, first-end, by-lt, gather-zero, gather-yes, select-zero, gather-all-length, select-all-at, select-all-length, select-all-put}
+use Rattle.lists.proofs.Windows.{within-at, within-within, within-fits, within-spliced, length-spliced, spliced-nil, spliced-then, within-gather}
 use Rattle.lists.proofs.Records.{length-flat, within-flat}
 use Rattle.fields.specs.declared.ByteOrder.the-variants.{Big}
 use Rattle.fields.specs.Numbers.{number, encoded}
@@ -72,15 +72,10 @@ module _ (B : List ℕ) where
   unfolding blockTable
   table-next n = gather-yes (λ i. true) (blockRow B) n refl
 
-  table-split : (i n : ℕ) → i < n → (r : List ℕ) × (blockTable B n ≡ blockTable B i ++ (blockRow B i ++ r))
-  unfolding blockTable
-  table-split i n h = gather-split (λ i. true) (blockRow B) i n h refl
-
   -- row i stands at 48 * i, and word k of it 4 * k bytes further
   pub within-row : (i n : ℕ) → i < n → Within (blockRow B i) (48 * i) (blockTable B n)
-  within-row i n h =
-      let s = table-split i n h in
-      rw (s .1) (within-head (blockRow B i) (s .0) _ (48 * i) (within-second (blockTable B i) (blockRow B i ++ s .0) (48 * i) (length-table i)))
+  unfolding blockTable
+  within-row i n h = within-gather (λ i. true) (blockRow B) i n (48 * i) (length-table i) h refl
 
   pub within-word : (i k : ℕ) → k < 12 → Within (encoded Big 4 (groupAt B (blockAt B i) k)) (4 * k) (blockRow B i)
   unfolding blockRow

@@ -3,12 +3,12 @@
 ghost use mathlib.Core.Path.{_≡_};
 ghost use Prim.Native.Nat.{_+_, _*_, _≤_, _<_};
 ghost use lib.ListN.{length};
+ghost use Rattle.lists.specs.Written.{Written};
 ghost use Rattle.blocks.specs.Blocks.{blockCount};
 ghost use Rattle.blocks.specs.Table.{Parsed};
 ghost use Rattle.places.specs.Spans.{spanCode, endAt};
-ghost use Rattle.lists.specs.Written.{Written};
+ghost use Rattle.places.specs.Walk.{Laid};
 ghost use Rattle.draft_text.specs.Draft.{labelText, labelsText, bodyText, fillOf, padText, lineText, linesText, lateAt, hasLate, lateLines, latePart, draftText};
-ghost use Rattle.draft_text.specs.Job.{Job};
 use fields::ByteOrder;
 
 // Appends the start or end label of line j, if it has one.
@@ -80,7 +80,7 @@ fn append_pad(
     j: usize,
     end: u64,
 ) -> u64
-    requires { ⌜ Job order (now compiled) (now file) (now table) (now places) × (j < 4 * blockCount (now file)) × (end ≡ endAt order (now compiled) (now file) j (spanCode j)) × (at < 2305843009213693952) ⌝ }
+    requires { ⌜ Laid order (now compiled) (now file) (now table) (now places) × (j < 4 * blockCount (now file)) × (end ≡ endAt order (now compiled) (now file) j (spanCode j)) × (at < 2305843009213693952) ⌝ }
     ensures { λ r. ⌜ Written (now (out .entry)) at (padText order (now (compiled .entry)) (now (file .entry)) j) r (now (out .exit)) × (r ≤ at + 8589934592) ⌝ }
 {
     if places::is_taken(order, compiled, file, places, j) {
@@ -106,7 +106,7 @@ fn append_line_text(
     j: usize,
     end: u64,
 ) -> u64
-    requires { ⌜ Job order (now compiled) (now file) (now table) (now places) × (j < 4 * blockCount (now file)) × (end ≡ endAt order (now compiled) (now file) j (spanCode j)) × (at < 576460752303423488) ⌝ }
+    requires { ⌜ Laid order (now compiled) (now file) (now table) (now places) × (j < 4 * blockCount (now file)) × (end ≡ endAt order (now compiled) (now file) j (spanCode j)) × (at < 576460752303423488) ⌝ }
     ensures { λ r. ⌜ Written (now (out .entry)) at (lineText order (now (compiled .entry)) (now (file .entry)) j) r (now (out .exit)) × (r ≤ at + 17179869184) ⌝ }
 {
     let next = append_pad(out, at, order, compiled, file, table, places, j, end);
@@ -128,7 +128,7 @@ fn end_after(
     j: usize,
     end: u64,
 ) -> u64
-    requires { ⌜ Job order (now compiled) (now file) (now table) (now places) × (j < 4 * blockCount (now file)) × (end ≡ endAt order (now compiled) (now file) j (spanCode j)) ⌝ }
+    requires { ⌜ Laid order (now compiled) (now file) (now table) (now places) × (j < 4 * blockCount (now file)) × (end ≡ endAt order (now compiled) (now file) j (spanCode j)) ⌝ }
     ensures { λ r. ⌜ r ≡ endAt order (now (compiled .entry)) (now (file .entry)) (j + 1) (spanCode j) ⌝ }
 {
     if places::is_taken(order, compiled, file, places, j) {
@@ -150,7 +150,7 @@ fn append_lines(
     places: &[u8],
     count: usize,
 ) -> u64
-    requires { ⌜ Job order (now compiled) (now file) (now table) (now places) × (count ≡ blockCount (now file)) × (at ≤ 1048577) ⌝ }
+    requires { ⌜ Laid order (now compiled) (now file) (now table) (now places) × (count ≡ blockCount (now file)) × (at ≤ 1048577) ⌝ }
     ensures { λ r. ⌜ Written (now (out .entry)) at (linesText order (now (compiled .entry)) (now (file .entry)) (4 * count)) r (now (out .exit)) × (r ≤ at + 70368744177664) ⌝ }
 {
     let mut ends = [0u64; 5];
@@ -175,7 +175,7 @@ fn has_late(
     places: &[u8],
     i: usize,
 ) -> bool
-    requires { ⌜ Job order (now compiled) (now file) (now table) (now places) × (i < blockCount (now file)) ⌝ }
+    requires { ⌜ Laid order (now compiled) (now file) (now table) (now places) × (i < blockCount (now file)) ⌝ }
     ensures { λ r. ⌜ r ≡ lateAt order (now (compiled .entry)) (now (file .entry)) i ⌝ }
 {
     if places::is_live(order, compiled, file, table, places, i) {
@@ -196,7 +196,7 @@ fn append_late_lines(
     places: &[u8],
     count: usize,
 ) -> u64
-    requires { ⌜ Job order (now compiled) (now file) (now table) (now places) × (count ≡ blockCount (now file)) × (at < 140737488355328) ⌝ }
+    requires { ⌜ Laid order (now compiled) (now file) (now table) (now places) × (count ≡ blockCount (now file)) × (at < 140737488355328) ⌝ }
     ensures { λ r. ⌜ Written (now (out .entry)) at (lateLines order (now (compiled .entry)) (now (file .entry))) r (now (out .exit)) × (r ≤ at + 1073741824) ⌝ }
 {
     let mut next = at;
@@ -222,7 +222,7 @@ fn is_late(
     places: &[u8],
     count: usize,
 ) -> bool
-    requires { ⌜ Job order (now compiled) (now file) (now table) (now places) × (count ≡ blockCount (now file)) ⌝ }
+    requires { ⌜ Laid order (now compiled) (now file) (now table) (now places) × (count ≡ blockCount (now file)) ⌝ }
     ensures { λ r. ⌜ r ≡ hasLate order (now (compiled .entry)) (now (file .entry)) ⌝ }
 {
     let mut i: usize = 0;
@@ -246,7 +246,7 @@ fn append_late(
     places: &[u8],
     count: usize,
 ) -> u64
-    requires { ⌜ Job order (now compiled) (now file) (now table) (now places) × (count ≡ blockCount (now file)) × (at < 140737488355000) ⌝ }
+    requires { ⌜ Laid order (now compiled) (now file) (now table) (now places) × (count ≡ blockCount (now file)) × (at < 140737488355000) ⌝ }
     ensures { λ r. ⌜ Written (now (out .entry)) at (latePart order (now (compiled .entry)) (now (file .entry))) r (now (out .exit)) ⌝ }
 {
     if is_late(order, compiled, file, table, places, count) {
@@ -270,7 +270,7 @@ pub fn append_draft(
     places: &[u8],
     count: usize,
 ) -> u64
-    requires { ⌜ Job order (now compiled) (now file) (now table) (now places) × (count ≡ blockCount (now file)) × (length (now prelude) ≤ 1048576) ⌝ }
+    requires { ⌜ Laid order (now compiled) (now file) (now table) (now places) × (count ≡ blockCount (now file)) × (length (now prelude) ≤ 1048576) ⌝ }
     ensures { λ r. ⌜ Written (now (out .entry)) 0 (draftText order (now (compiled .entry)) (now (file .entry)) (now (prelude .entry))) r (now (out .exit)) ⌝ }
 {
     let a = draft_lines::append_line(out, 0, prelude);

@@ -21,8 +21,7 @@ use Rattle.object.proofs.Order.{accepted-big, accepted-in, accepted-table}
 use Rattle.blocks.specs.Blocks.{blockCount, blockFault}
 use Rattle.places.specs.declared.Placing.{Placing}
 use Rattle.places.specs.declared.Placing.the-variants.{Placed, Misplaced, Misaligned}
-use Rattle.places.specs.Walk.{placing}
-use Rattle.spans.specs.Table.{Laid}
+use Rattle.places.specs.Walk.{placing, Laid}
 use Rattle.answers.specs.Answers.{Answer, refused}
 use Rattle.inputs.specs.declared.Inputs.{Inputs}
 use Rattle.inputs.specs.declared.Inputs.the-variants.{Taken, Faulty}

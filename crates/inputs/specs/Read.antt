@@ -11,7 +11,7 @@ use Rattle.object.specs.declared.View.{View}
 use Rattle.object.specs.Object.{viewOf}
 use Rattle.object.specs.Sound.{Sound}
 use Rattle.blocks.specs.Blocks.{blockCount}
-use Rattle.spans.specs.Table.{Laid}
+use Rattle.places.specs.Walk.{Laid}
 use Rattle.inputs.specs.declared.Inputs.{Inputs}
 use Rattle.inputs.specs.declared.Inputs.the-variants.{Taken}
 

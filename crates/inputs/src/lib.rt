@@ -1,5 +1,5 @@
 // The inputs of a merge: the compiled object, the assembled one and the block file, checked in document 01's order by 1 to 9 (A's 2 to 6 come last). The answer
-// equals `inputsOf` of specs/Inputs.antt; where all is taken the two tables hold the blocks and their places, as the record `Laid` of the crate spans says.
+// equals `inputsOf` of specs/Inputs.antt; where all is taken the two tables hold the blocks and their places, as the record `Laid` of the crate places says.
 ghost use mathlib.Core.Path.{_≡_};
 ghost use Prim.Native.Nat.{_≤_};
 ghost use lib.ListN.{length};

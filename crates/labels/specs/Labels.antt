@@ -14,8 +14,8 @@ use Rattle.elf.specs.Readers.{codedSection}
 use Rattle.elf.specs.Bounds.{Named}
 use Rattle.symbols.specs.Symbols.{symbolCount, symbol, symbolNamed, Table}
 use Rattle.places.specs.Spans.{spanBlock, spanCode, spanLabel, taken, place}
+use Rattle.places.specs.Walk.{Laid}
 use Rattle.spans.specs.Spans.{lineCount, spanEnd}
-use Rattle.spans.specs.Table.{Laid}
 
 -- the first symbol of a name is there, in section s, with value v
 unfoldable pub isAt : ByteOrder → List ℕ → List ℕ → ℕ → ℕ → Bool

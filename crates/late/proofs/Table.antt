@@ -9,9 +9,9 @@ use native.Mathlib.Omega.{arith}
 use lib.ListN.{length, getD, length-append}
 use Rattle.lists.specs.Ranges.{select}
 use Rattle.lists.specs.Windows.{Within, spliced}
-use Rattle.lists.proofs.Ranges.{by-test, first-high, first-none, sum-zero, sum-next, sum-mono, gather-zero, gather-yes, gather-split, gather-all-length, select-all-at, select-all-length}
+use Rattle.lists.proofs.Ranges.{by-test, first-high, first-none, sum-zero, sum-next, sum-mono, gather-zero, gather-yes, gather-all-length, select-all-at, select-all-length}
 use Rattle.lists.proofs.Records.{length-flat, within-flat}
-use Rattle.lists.proofs.Windows.{within-second, within-head, length-spliced, spliced-nil, spliced-then, spliced-comm}
+use Rattle.lists.proofs.Windows.{length-spliced, spliced-nil, spliced-then, spliced-comm, within-gather}
 use Rattle.fields.specs.declared.ByteOrder.{ByteOrder}
 use Rattle.fields.specs.declared.ByteOrder.the-variants.{Big}
 use Rattle.fields.specs.Numbers.{encoded}
@@ -47,14 +47,9 @@ module _ (o : ByteOrder) (C B R : List ℕ) (s : ℕ) where
   unfolding rowTable
   rows-next n = gather-yes (λ i. true) (lateRow o C B R s) n refl
 
-  rows-split : (i n : ℕ) → i < n → (r : List ℕ) × (rowTable o C B R s n ≡ rowTable o C B R s i ++ (lateRow o C B R s i ++ r))
-  unfolding rowTable
-  rows-split i n h = gather-split (λ i. true) (lateRow o C B R s) i n h refl
-
   pub within-row : (i n : ℕ) → i < n → Within (lateRow o C B R s i) (12 * i) (rowTable o C B R s n)
-  within-row i n h =
-      let r = rows-split i n h in
-      rw (r .1) (within-head (lateRow o C B R s i) (r .0) _ (12 * i) (within-second (rowTable o C B R s i) (lateRow o C B R s i ++ r .0) (12 * i) (length-rows i)))
+  unfolding rowTable
+  within-row i n h = within-gather (λ i. true) (lateRow o C B R s) i n (12 * i) (length-rows i) h refl
 
   pub within-field : (i k : ℕ) → k < 3
       → Within (encoded Big 4 (getD (lateSource o C B s i ∷ dummyIndex o C B i ∷ lateFrom o C B R i ∷ []) k 0)) (4 * k) (lateRow o C B R s i)
@@ -90,10 +85,6 @@ module _ (o : ByteOrder) (C B R : List ℕ) where
   pub words-next : (n : ℕ) → wordTable o C B R (n + 1) ≡ wordTable o C B R n ++ blockWords o C B R n
   unfolding wordTable
   words-next n = gather-yes (λ i. true) (blockWords o C B R) n refl
-
-  words-split : (i n : ℕ) → i < n → (r : List ℕ) × (wordTable o C B R n ≡ wordTable o C B R i ++ (blockWords o C B R i ++ r))
-  unfolding wordTable
-  words-split i n h = gather-split (λ i. true) (blockWords o C B R) i n h refl
 
   -- how many dummies of a block are sound
   unfoldable pub soundDummies : ℕ → ℕ
@@ -146,10 +137,8 @@ module _ (o : ByteOrder) (C B R : List ℕ) where
   -- where nothing is at fault: the words of block i stand behind those of the blocks before it, and the place of dummy k is word k of them
   module _ (e : lateFault o C B R ≡ blockCount B) (i : ℕ) (h : i < blockCount B) where
     pub within-block : Within (blockWords o C B R i) (4 * dummyIndex o C B i) (wordTable o C B R (blockCount B))
-    within-block =
-        let r = words-split i (blockCount B) h in
-        rw (r .1) (within-head (blockWords o C B R i) (r .0) _ (4 * dummyIndex o C B i)
-        (within-second (wordTable o C B R i) (blockWords o C B R i ++ r .0) (4 * dummyIndex o C B i) (length-words i e (omega arith))))
+    unfolding wordTable
+    within-block = within-gather (λ j. true) (blockWords o C B R) i (blockCount B) (4 * dummyIndex o C B i) (length-words i e (omega arith)) h refl
 
     all-sound : soundItems o B R i (lateFrom o C B R i) (liveDummies o C B i) ≡ liveDummies o C B i
     unfolding soundDummies

@@ -13,7 +13,7 @@ use Rattle.elf.specs.Readers.{codedSection}
 use Rattle.elf.specs.Bounds.{Named}
 use Rattle.symbols.specs.Symbols.{symbol, symbolNamed, Table}
 use Rattle.blocks.specs.Blocks.{blockCount}
-use Rattle.spans.specs.Table.{Laid}
+use Rattle.places.specs.Walk.{Laid}
 use Rattle.block_values.specs.BlockValues.{lateLength}
 use Rattle.late_length.specs.Late.{lateRuns}
 use Rattle.missing.specs.declared.Missing.{Missing}

@@ -107,6 +107,19 @@ module _ (p : ℕ → Bool) where
   pub first-to : (i n j : ℕ) → i ≤ j → j < n → p j ≡ true → first p i n ≤ j
   first-to i n j l u t = by-lt j (first p i n) (λ h. both t (first-is i n (omega arith) .below j l h)) (λ h. h)
 
+  -- whether an index in [i, n) passes
+  pub some-yes : (i n j : ℕ) → i ≤ j → j < n → p j ≡ true → ltb (first p i n) n ≡ true
+  some-yes i n j l u t = lt-ltb (first p i n) n (omega (arith, first-to i n j l u t))
+
+  pub some-no : (i n : ℕ) → i ≤ n → ((j : ℕ) → i ≤ j → j < n → p j ≡ false) → ltb (first p i n) n ≡ false
+  some-no i n h none = le-ltb (first p i n) n (omega (arith, first-none i n h none))
+
+  pub some-hit : (i n : ℕ) → i ≤ n → ltb (first p i n) n ≡ true → (first p i n < n) × (p (first p i n) ≡ true)
+  some-hit i n h t = let l = ltb-true (first p i n) n t in (l, first-is i n h .here l)
+
+  pub no-some : (i n j : ℕ) → ltb (first p i n) n ≡ false → i ≤ j → j < n → p j ≡ false
+  no-some i n j f l u = by-test (p j) (λ t. both (some-yes i n j l u t) f) (λ g. g)
+
   -- a search that found something finds the same below any later bound
   pub first-more : (i n m : ℕ) → first p i n < n → n ≤ m → first p i m ≡ first p i n
   first-more i n m h g = by-lt n i (λ l. absurd (omega (arith, first-low i n))) (λ l.

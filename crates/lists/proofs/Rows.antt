@@ -5,9 +5,7 @@ use mathlib.Core.Path.{_≡_, sym}
 use mathlib.Core.Logic.{_⊎_, inl, inr}
 use mathlib.Core.Bool.{Bool, true, false}
 use native.Mathlib.Omega.{arith}
-use borrow.Author.Tests.{lt-ltb, le-ltb, ltb-true}
-use Rattle.lists.specs.Ranges.{first}
-use Rattle.lists.proofs.Ranges.{by-test, both, by-lt, first-is, first-to, first-none, first-ext}
+use Rattle.lists.proofs.Ranges.{by-test, both, by-lt, first-ext, some-yes, some-no, some-hit, no-some}
 use Rattle.lists.specs.Rows.{indexIn, hasIndex, rowIn, columnIn, hasRow}
 
 module _ (p : ℕ → ℕ → Bool) (m : ℕ → ℕ) where
@@ -15,28 +13,29 @@ module _ (p : ℕ → ℕ → Bool) (m : ℕ → ℕ) where
 
   pub index-yes : (i k : ℕ) → k < m i → p i k ≡ true → hasIndex p m i ≡ true
   unfolding hasIndex indexIn
-  index-yes i k h t = lt-ltb (first (p i) 0 (m i)) (m i) (omega (arith, first-to (p i) 0 (m i) k (omega arith) h t))
+  index-yes i k h t = some-yes (p i) 0 (m i) k (omega arith) h t
 
   pub index-none : (i : ℕ) → ((k : ℕ) → k < m i → p i k ≡ false) → hasIndex p m i ≡ false
   unfolding hasIndex indexIn
-  index-none i none = le-ltb (first (p i) 0 (m i)) (m i) (omega (arith, first-none (p i) 0 (m i) (omega arith) (λ k l h. none k h)))
+  index-none i none = some-no (p i) 0 (m i) (omega arith) (λ k l h. none k h)
 
   pub none-index : (i k : ℕ) → hasIndex p m i ≡ false → k < m i → p i k ≡ false
-  none-index i k f h = by-test (p i k) (λ t. both (index-yes i k h t) f) (λ g. g)
+  unfolding hasIndex indexIn
+  none-index i k f h = no-some (p i) 0 (m i) k f (omega arith) h
 
   pub index-hit : (i : ℕ) → hasIndex p m i ≡ true → (indexIn p m i < m i) × (p i (indexIn p m i) ≡ true)
   unfolding hasIndex indexIn
-  index-hit i t = let h = ltb-true _ _ t in (h, first-is (p i) 0 (m i) (omega arith) .here h)
+  index-hit i t = some-hit (p i) 0 (m i) (omega arith) t
 
   -- ---- all rows
 
   pub row-yes : (n i k : ℕ) → i < n → k < m i → p i k ≡ true → hasRow p m n ≡ true
   unfolding hasRow rowIn
-  row-yes n i k h l t = lt-ltb (first (hasIndex p m) 0 n) n (omega (arith, first-to (hasIndex p m) 0 n i (omega arith) h (index-yes i k l t)))
+  row-yes n i k h l t = some-yes (hasIndex p m) 0 n i (omega arith) h (index-yes i k l t)
 
   pub row-none : (n : ℕ) → ((i k : ℕ) → i < n → k < m i → p i k ≡ false) → hasRow p m n ≡ false
   unfolding hasRow rowIn
-  row-none n none = le-ltb (first (hasIndex p m) 0 n) n (omega (arith, first-none (hasIndex p m) 0 n (omega arith) (λ i l h. index-none i (λ k g. none i k h g))))
+  row-none n none = some-no (hasIndex p m) 0 n (omega arith) (λ i l h. index-none i (λ k g. none i k h g))
 
   -- no pair passes where no row is found
   pub none-row : (n i k : ℕ) → hasRow p m n ≡ false → i < n → k < m i → p i k ≡ false
@@ -52,9 +51,9 @@ module _ (p : ℕ → ℕ → Bool) (m : ℕ → ℕ) (n : ℕ) where
   pub row-hit : hasRow p m n ≡ true → Hit p m n (rowIn p m n) (columnIn p m n)
   unfolding hasRow rowIn columnIn
   row-hit t =
-      let h = ltb-true _ _ t in
-      let r = index-hit p m (rowIn p m n) (first-is (hasIndex p m) 0 n (omega arith) .here h) in
-      record { row = h; column = r .0; passes = r .1 }
+      let h = some-hit (hasIndex p m) 0 n (omega arith) t in
+      let r = index-hit p m (rowIn p m n) (h .1) in
+      record { row = h .0; column = r .0; passes = r .1 }
 
   -- a pair that passes is found where no other does
   pub row-is : (i k : ℕ) → i < n → k < m i → p i k ≡ true → ((j l : ℕ) → Hit p m n j l → (j ≡ i) × (l ≡ k))

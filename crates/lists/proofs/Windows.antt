@@ -2,6 +2,7 @@
 -- law comes from where the seams of that cut lie. Assumes nothing.
 use mathlib.Core.Path.{_≡_, refl, sym, ap, _∙_}
 use mathlib.Core.Logic.{_⊎_, ⊎-elim}
+use mathlib.Core.Bool.{Bool, true}
 use mathlib.Core.List.{List, [], _∷_, _++_, append-assoc, append-nil}
 use Prim.Native.Nat.{ℕ, zero, suc, _+_, _-_, _≤_, _<_}
 use native.Mathlib.Nat.{zero-add, suc-add, add-zero}
@@ -9,8 +10,9 @@ use native.Mathlib.Numerals.{add-one}
 use native.Mathlib.Omega.{arith}
 use lib.ListN.{length, take, drop, getD, set, length-append, length-take, length-drop, take-append-drop, List·getD-append}
 use lib.Seq.{ext-getD, take-nil, take-suc, drop-cons, drop-drop, drop-length, take-all, take-take, length-take-le, take-at, drop-at, take-append-seam, getD-append-add, getD-take, getD-drop, set-split}
+use Rattle.lists.specs.Ranges.{gather}
 use Rattle.lists.specs.Windows.{Within, spliced}
-use Rattle.lists.proofs.Ranges.{by-lt}
+use Rattle.lists.proofs.Ranges.{by-lt, gather-split}
 
 -- one element further, in the code's i + 1
 pub drop-next : {A : Type 0} (l : List A) (i : ℕ) (d : A) → i < length l → drop i l ≡ getD l i d ∷ drop (i + 1) l
@@ -121,6 +123,12 @@ within-head a b l o v = within-at a l (o + 0) o (add-zero o) (within-within a (a
 
 pub within-tail : (a b l : List ℕ) (o p : ℕ) → o + length a ≡ p → Within (a ++ b) o l → Within b p l
 within-tail a b l o p e v = within-at b l (o + length a) p e (within-within b (a ++ b) l o (length a) (within-second a b (length a) refl) v)
+
+-- in a list that is gathered, what an index that passes gives stands behind what those before it give
+pub within-gather : (p : ℕ → Bool) (f : ℕ → List ℕ) (i n o : ℕ) → length (gather p f i) ≡ o → i < n → p i ≡ true → Within (f i) o (gather p f n)
+within-gather p f i n o e h t =
+    let s = gather-split p f i n h t in
+    rw (s .1) (within-head (f i) (s .0) _ o (within-second (gather p f i) (f i ++ s .0) o e))
 
 -- a window lies inside its list, and is what is read there
 pub within-fits : (b l : List ℕ) (o : ℕ) → Within b o l → o + length b ≤ length l

@@ -6,9 +6,9 @@ use mathlib.Core.List.{List}
 use native.Mathlib.Omega.{arith}
 use lib.ListN.{length, take, drop}
 use lib.Dec.{eqb, leb}
-use borrow.Author.Tests.{lt-ltb, ltb-true, ltb-false, eq-eqb, eqb-true, le-leb}
+use borrow.Author.Tests.{lt-ltb, ltb-true, eq-eqb, eqb-true, le-leb, not-false}
 use Rattle.lists.specs.Ranges.{first}
-use Rattle.lists.proofs.Ranges.{by-test, both, by-lt, and-parts, first-high, first-to, none-first, or-parts}
+use Rattle.lists.proofs.Ranges.{by-test, both, by-lt, and-parts, first-high, none-first, or-parts, no-some, some-yes}
 use Rattle.fields.specs.declared.ByteOrder.{ByteOrder}
 use Rattle.places.specs.declared.Placing.the-variants.{Placed}
 use Rattle.places.specs.Spans.{spanSize, place}
@@ -25,10 +25,6 @@ use Rattle.missing.proofs.Needed.{answer-compiled, answer-assembled, ta
 
 and-off : (a b : Bool) → (a && b) ≡ false → a ≡ true → b ≡ false
 and-off a b f t = rw t at f
-
-not-off : (a : Bool) → not a ≡ false → a ≡ true
-not-off true f = refl
-not-off false f = sym f
 
 -- ---- no code is at fault
 
@@ -86,9 +82,7 @@ module _ (o : ByteOrder) (C B : List ℕ) where
   not-passed c n j f h t = by-lt n (spanEnd o C B j)
       (λ l.
       let b : endsBehind o C B c n j ≡ true = rw (t, lt-ltb n (spanEnd o C B j) l) in
-      let m : first (endsBehind o C B c n) 0 (lineCount B) ≤ j = first-to (endsBehind o C B c n) 0 (lineCount B) j (omega arith) h b in
-      let g : lineCount B ≤ first (endsBehind o C B c n) 0 (lineCount B) = ltb-false _ _ f in
-      absurd (omega arith))
+      both b (no-some (endsBehind o C B c n) 0 (lineCount B) j f (omega arith) h))
       (λ l. l)
 
   module _ (p : placing o C B ≡ Placed) (F : List ℕ) (none : (c : ℕ) → 1 ≤ c → c ≤ 3 → overruns o C B F c ≡ false) where
@@ -112,17 +106,13 @@ module _ (o : ByteOrder) (C B : List ℕ) where
   even-of : hasUneven o C B ≡ false → (j : ℕ) → j < lineCount B → isSpan o C B 1 j ≡ true → (place o C B j % 4 ≡ 0) × (spanSize B j % 4 ≡ 0)
   unfolding hasUneven isUneven
   even-of f j h t =
-      let m : first (isUneven o C B) 0 (lineCount B) ≡ lineCount B =
-      omega (arith, ltb-false (first (isUneven o C B) 0 (lineCount B)) (lineCount B) f, first-high (isUneven o C B) 0 (lineCount B) (omega arith)) in
-      let g = and-off (isSpan o C B 1 j) _ (none-first (isUneven o C B) 0 (lineCount B) j m (omega arith) h) t in
-      let r = and-parts (eqb (place o C B j % 4) 0) _ (not-off _ g) in
+      let g = and-off (isSpan o C B 1 j) _ (no-some (isUneven o C B) 0 (lineCount B) j f (omega arith) h) t in
+      let r = and-parts (eqb (place o C B j % 4) 0) _ (not-false (eqb (place o C B j % 4) 0 && eqb (spanSize B j % 4) 0) g) in
       (eqb-true _ _ (r .0), eqb-true _ _ (r .1))
 
   span-has : (c j : ℕ) → j < lineCount B → isSpan o C B c j ≡ true → hasSpan o C B c ≡ true
   unfolding hasSpan
-  span-has c j h t =
-      let m : first (isSpan o C B c) 0 (lineCount B) ≤ j = first-to (isSpan o C B c) 0 (lineCount B) j (omega arith) h t in
-      lt-ltb (first (isSpan o C B c) 0 (lineCount B)) (lineCount B) (omega arith)
+  span-has c j h t = some-yes (isSpan o C B c) 0 (lineCount B) j (omega arith) h t
 
 -- a section that must be there and is not missing is there
 wanted-there : (h w : Bool) → (not h && w) ≡ false → w ≡ true → h ≡ true

@@ -9,7 +9,7 @@ use lib.ListN.{length}
 use lib.Dec.{eqb, ltb, leb}
 use borrow.Author.Tests.{lt-ltb, le-ltb, eq-eqb, ne-eqb}
 use Rattle.lists.specs.Ranges.{first}
-use Rattle.lists.proofs.Ranges.{by-test, by-lt, first-none, first-to, first-end}
+use Rattle.lists.proofs.Ranges.{by-test, by-lt, first-end, some-no, some-yes}
 use Rattle.fields.specs.declared.ByteOrder.{ByteOrder}
 use Rattle.elf.specs.Readers.{sectionCount, codedSection, contents}
 use Rattle.places.specs.declared.Placing.the-variants.{Placed}
@@ -48,12 +48,10 @@ module _ (o : ByteOrder) (C B : List ℕ) (p : placing o C B ≡ Placed) (c : �
   has-span-last = by-lt 0 (lastEnd o C B c)
       (λ h.
       let r = last-line h in
-      let m : first (isSpan o C B c) 0 (lineCount B) ≤ r .0 = first-to (isSpan o C B c) 0 (lineCount B) (r .0) (omega arith) (r .1) (r .2) in
-      lt-ltb _ _ h ∙ sym (lt-ltb (first (isSpan o C B c) 0 (lineCount B)) (lineCount B) (omega (arith, r .1))))
+      lt-ltb _ _ h ∙ sym (some-yes (isSpan o C B c) 0 (lineCount B) (r .0) (omega arith) (r .1) (r .2)))
       (λ h.
-      let e : first (isSpan o C B c) 0 (lineCount B) ≡ lineCount B = first-none (isSpan o C B c) 0 (lineCount B) (omega arith) (λ j l u.
-      by-test (isSpan o C B c j) (λ t. absurd (omega (arith, span-some o C B p c j u t, span-last o C B p c j u t))) (λ f. f)) in
-      le-ltb _ _ h ∙ sym (rw e (le-ltb (lineCount B) (lineCount B) (omega arith))))
+      le-ltb _ _ h ∙ sym (some-no (isSpan o C B c) 0 (lineCount B) (omega arith) (λ j l u.
+      by-test (isSpan o C B c j) (λ t. absurd (omega (arith, span-some o C B p c j u t, span-last o C B p c j u t))) (λ f. f))))
 
   -- a span passes an offset where the last one does
   pub passes-last : (n : ℕ) → ltb n (lastEnd o C B c) ≡ passes o C B c n
@@ -62,8 +60,7 @@ module _ (o : ByteOrder) (C B : List ℕ) (p : placing o C B ≡ Placed) (c : �
       (λ h.
       let r = last-line (omega arith) in
       let b : endsBehind o C B c n (r .0) ≡ true = rw (r .2, lt-ltb n (spanEnd o C B (r .0)) (omega (arith, r .3))) in
-      let m : first (endsBehind o C B c n) 0 (lineCount B) ≤ r .0 = first-to (endsBehind o C B c n) 0 (lineCount B) (r .0) (omega arith) (r .1) b in
-      lt-ltb _ _ h ∙ sym (lt-ltb (first (endsBehind o C B c n) 0 (lineCount B)) (lineCount B) (omega (arith, r .1))))
+      lt-ltb _ _ h ∙ sym (some-yes (endsBehind o C B c n) 0 (lineCount B) (r .0) (omega arith) (r .1) b))
       (λ h.
       by-lt (spanFrom o C B c n) (lineCount B)
       (λ g. absurd (omega (arith, from-end o C B c n g, span-last o C B p c (spanFrom o C B c n) g (from-span o C B c n g))))
@@ -99,9 +96,7 @@ module _ (o : ByteOrder) (A : List ℕ) (c : ℕ) where
 
   pub target-here : (a : ℕ) → 1 ≤ a → a < 6 → goesTo o A c a ≡ true → true ≡ isTarget o A c
   unfolding isTarget
-  target-here a l h t =
-      let m : first (goesTo o A c) 1 6 ≤ a = first-to (goesTo o A c) 1 6 a l h t in
-      sym (lt-ltb (first (goesTo o A c) 1 6) 6 (omega arith))
+  target-here a l h t = sym (some-yes (goesTo o A c) 1 6 a l h t)
 
   pub target-none : (a : ℕ) → 6 ≤ a → first (goesTo o A c) 1 6 ≡ first (goesTo o A c) a 6 → false ≡ isTarget o A c
   unfolding isTarget
@@ -130,9 +125,7 @@ module _ (o : ByteOrder) (C B : List ℕ) where
 
   pub uneven-here : (j : ℕ) → j < lineCount B → isUneven o C B j ≡ true → true ≡ hasUneven o C B
   unfolding hasUneven
-  uneven-here j h t =
-      let m : first (isUneven o C B) 0 (lineCount B) ≤ j = first-to (isUneven o C B) 0 (lineCount B) j (omega arith) h t in
-      sym (lt-ltb (first (isUneven o C B) 0 (lineCount B)) (lineCount B) (omega arith))
+  uneven-here j h t = sym (some-yes (isUneven o C B) 0 (lineCount B) j (omega arith) h t)
 
   pub uneven-none : (j : ℕ) → lineCount B ≤ j → first (isUneven o C B) 0 (lineCount B) ≡ first (isUneven o C B) j (lineCount B) → false ≡ hasUneven o C B
   unfolding hasUneven

@@ -13,8 +13,9 @@ use Rattle.elf.specs.Readers.{sectionCount, codedSection}
 use Rattle.elf.specs.Bounds.{Named}
 use Rattle.blocks.specs.Blocks.{blockCount}
 use Rattle.places.specs.Spans.{spanSize, place}
+use Rattle.places.specs.Walk.{Laid}
 use Rattle.spans.specs.Spans.{coded, lineCount, isSpan}
-use Rattle.spans.specs.Table.{spanFrom, Laid}
+use Rattle.spans.specs.Table.{spanFrom}
 use Rattle.late_length.specs.Late.{lateRuns}
 use Rattle.missing.specs.declared.Missing.{Missing}
 use Rattle.missing.specs.declared.Missing.the-variants.{Nothing, InCompiled, InAssembled}

@@ -6,7 +6,7 @@ ghost use lib.Dec.{eqb, leb};
 ghost use Rattle.lists.specs.Ranges.{first};
 ghost use Rattle.elf.specs.Bounds.{Named};
 ghost use Rattle.blocks.specs.Blocks.{blockCount};
-ghost use Rattle.spans.specs.Table.{Laid};
+ghost use Rattle.places.specs.Walk.{Laid};
 ghost use Rattle.late_length.specs.Late.{lateRuns};
 ghost use Rattle.missing.specs.Needed.{hasCode, heldBytes, targetCode, goesTo, isTarget, hasSpan, passes, isUneven, hasUneven, overruns, wantedC, missingC, wantedA, missingA, missing, Lining};
 use fields::ByteOrder;

@@ -14,8 +14,8 @@ use borrow.Author.Tests.{lt-ltb, le-ltb, eqb-true, eqb-false, ltb-false, not-fal
 use Rattle.lists.specs.Ranges.{first}
 use Rattle.lists.specs.Windows.{Within, spliced}
 use Rattle.lists.specs.Records.{flat}
-use Rattle.lists.proofs.Ranges.{by-test, both, by-lt, and-parts, first-here, first-next, first-end, first-high, none-first, gather-zero, gather-yes, gather-split, or-parts, gather-all-length}
-use Rattle.lists.proofs.Windows.{within-at, within-second, within-head, within-within, within-fits, within-spliced, length-spliced, spliced-nil, spliced-then}
+use Rattle.lists.proofs.Ranges.{by-test, both, by-lt, and-parts, first-here, first-next, first-end, first-high, none-first, gather-zero, gather-yes, or-parts, gather-all-length}
+use Rattle.lists.proofs.Windows.{within-at, within-within, within-fits, within-spliced, length-spliced, spliced-nil, spliced-then, within-gather}
 use Rattle.lists.proofs.Records.{length-flat, within-flat}
 use Rattle.fields.specs.declared.ByteOrder.{ByteOrder}
 use Rattle.fields.specs.declared.ByteOrder.the-variants.{Big}
@@ -52,15 +52,10 @@ module _ (o : ByteOrder) (C B : List ℕ) where
   unfolding placeTable
   place-table-next n = gather-yes (λ i. true) (placeRow o C B) n refl
 
-  table-split : (i n : ℕ) → i < n → (r : List ℕ) × (placeTable o C B n ≡ placeTable o C B i ++ (placeRow o C B i ++ r))
-  unfolding placeTable
-  table-split i n h = gather-split (λ i. true) (placeRow o C B) i n h refl
-
   -- row j stands at 8 * j
   pub within-place-row : (j n : ℕ) → j < n → Within (placeRow o C B j) (8 * j) (placeTable o C B n)
-  within-place-row j n h =
-      let s = table-split j n h in
-      rw (s .1) (within-head (placeRow o C B j) (s .0) _ (8 * j) (within-second (placeTable o C B j) (placeRow o C B j ++ s .0) (8 * j) (length-place-table j)))
+  unfolding placeTable
+  within-place-row j n h = within-gather (λ i. true) (placeRow o C B) j n (8 * j) (length-place-table j) h refl
 
   within-word : (j k : ℕ) → k < 2
       → Within (encoded Big 4 (getD (cond (taken o C B j) 1 0 ∷ cond (taken o C B j) (place o C B j) 0 ∷ []) k 0)) (4 * k) (placeRow o C B j)

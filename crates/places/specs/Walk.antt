@@ -11,6 +11,7 @@ use Rattle.fields.specs.declared.ByteOrder.{ByteOrder}
 use Rattle.fields.specs.declared.ByteOrder.the-variants.{Big}
 use Rattle.fields.specs.Numbers.{encoded}
 use Rattle.blocks.specs.Blocks.{blockCount}
+use Rattle.blocks.specs.Table.{Parsed}
 use Rattle.places.specs.declared.Placing.{Placing}
 use Rattle.places.specs.declared.Placing.the-variants.{Placed, Misplaced, Misaligned}
 use Rattle.places.specs.Spans.{spanBlock, taken, place, fault8, isMisplaced}
@@ -46,3 +47,9 @@ pub record Placement (o : ByteOrder) (C B : List ℕ) (r : Placing) (before afte
 -- the table of places in hand, of blocks that are all placed
 pub record Walked (o : ByteOrder) (C B places : List ℕ) : Type 0 where
   pub rows : Within (placeTable o C B (4 * blockCount B)) 0 places
+
+-- the tables of a block file whose blocks are all placed
+pub record Laid (o : ByteOrder) (C B table places : List ℕ) : Type 0 where
+  pub parsed : Parsed B table
+  pub placed : placing o C B ≡ Placed
+  pub walked : Walked o C B places

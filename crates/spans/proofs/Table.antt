@@ -12,9 +12,9 @@ use borrow.Author.Tests.{eq-eqb, eqb-true, lt-ltb, le-ltb, ltb-true, ltb-false}
 use Rattle.lists.specs.Ranges.{first, count, pickList, IsFirst}
 use Rattle.lists.specs.Windows.{Within, spliced}
 use Rattle.lists.specs.Records.{flat}
-use Rattle.lists.proofs.Ranges.{by-test, both, by-lt, and-parts, and-true, first-is, first-none, first-to, first-unique, count-yes, count-no, count-lt, count-hit, count-zero, count-none, gather-zero, gather-yes, gather-no, gather-length, gather-split}
+use Rattle.lists.proofs.Ranges.{by-test, both, by-lt, and-parts, and-true, first-is, first-none, first-unique, count-yes, count-no, count-lt, count-hit, count-zero, count-none, gather-zero, gather-yes, gather-no, gather-length, some-hit, some-no, some-yes}
 use Rattle.lists.proofs.Halves.{GoesOn}
-use Rattle.lists.proofs.Windows.{within-at, within-second, within-head, within-within, within-fits, within-spliced, length-spliced, spliced-nil, spliced-then}
+use Rattle.lists.proofs.Windows.{within-at, within-within, within-fits, within-spliced, length-spliced, spliced-nil, spliced-then, within-gather}
 use Rattle.lists.proofs.Records.{length-flat, within-flat}
 use Rattle.fields.specs.declared.ByteOrder.{ByteOrder}
 use Rattle.fields.specs.declared.ByteOrder.the-variants.{Big}
@@ -90,16 +90,10 @@ module _ (o : ByteOrder) (C B : List ℕ) where
       (λ t. rw (gather-yes (isSpan o C B c) (spanRow o C B) n t, t))
       (λ f. rw (gather-no (isSpan o C B c) (spanRow o C B) n f, f) (sym (append-nil _)))
 
-  rows-split : (c j n : ℕ) → j < n → isSpan o C B c j ≡ true → (r : List ℕ) × (spanRows o C B c n ≡ spanRows o C B c j ++ (spanRow o C B j ++ r))
-  unfolding spanRows
-  rows-split c j n h t = gather-split (isSpan o C B c) (spanRow o C B) j n h t
-
   -- the row of line j stands behind those of the spans before it
   within-span-row : (c j n : ℕ) → j < n → isSpan o C B c j ≡ true → Within (spanRow o C B j) (8 * count (isSpan o C B c) j) (spanRows o C B c n)
-  within-span-row c j n h t =
-      let s = rows-split c j n h t in
-      let q = 8 * count (isSpan o C B c) j in
-      rw (s .1) (within-head (spanRow o C B j) (s .0) _ q (within-second (spanRows o C B c j) (spanRow o C B j ++ s .0) q (length-span-rows c j)))
+  unfolding spanRows
+  within-span-row c j n h t = within-gather (isSpan o C B c) (spanRow o C B) j n (8 * count (isSpan o C B c) j) (length-span-rows c j) h t
 
   within-word : (j k : ℕ) → k < 2 → Within (encoded Big 4 (getD (place o C B j ∷ spanSize B j ∷ []) k 0)) (4 * k) (spanRow o C B j)
   unfolding spanRow
@@ -355,13 +349,11 @@ module _ (o : ByteOrder) (C B : List ℕ) (k : ℕ) where
 
   some-word : (j : ℕ) → j < lineCount B → isWordOf o C B k j ≡ true → replacedWord o C B k ≡ true
   unfolding replacedWord
-  some-word j h t =
-      let m : first (isWordOf o C B k) 0 (lineCount B) ≤ j = first-to (isWordOf o C B k) 0 (lineCount B) j (omega arith) h t in
-      lt-ltb (first (isWordOf o C B k) 0 (lineCount B)) (lineCount B) (omega arith)
+  some-word j h t = some-yes (isWordOf o C B k) 0 (lineCount B) j (omega arith) h t
 
   no-word : ((j : ℕ) → j < lineCount B → isWordOf o C B k j ≡ false) → replacedWord o C B k ≡ false
   unfolding replacedWord
-  no-word none = rw (first-none (isWordOf o C B k) 0 (lineCount B) (omega arith) (λ j l h. none j h)) (le-ltb (lineCount B) (lineCount B) (omega arith))
+  no-word none = some-no (isWordOf o C B k) 0 (lineCount B) (omega arith) (λ j l h. none j h)
 
   pub replaced-none : isCovered o C B 1 k ≡ false → replacedWord o C B k ≡ false
   replaced-none f = no-word (λ j h. by-test (isWordOf o C B k j) (λ t. both (covered-by o C B 1 k j h (word-covers j t)) f) (λ e. e))
@@ -381,8 +373,9 @@ module _ (o : ByteOrder) (C B : List ℕ) (k : ℕ) where
   unfolding replacedWord spanEnd isWordOf
   replaced-hit t =
       let j = first (isWordOf o C B k) 0 (lineCount B) in
-      let h : j < lineCount B = ltb-true j (lineCount B) t in
-      let y : isWordOf o C B k j ≡ true = first-is (isWordOf o C B k) 0 (lineCount B) (omega arith) .here h in
+      let r = some-hit (isWordOf o C B k) 0 (lineCount B) (omega arith) t in
+      let h : j < lineCount B = r .0 in
+      let y : isWordOf o C B k j ≡ true = r .1 in
       let c : covers o C B 1 k j ≡ true = word-covers j y in
       let l : place o C B j ≤ k = covers-low o C B 1 k j c in
       let u : k < place o C B j + spanSize B j = covers-high o C B 1 k j c in

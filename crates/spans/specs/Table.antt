@@ -12,19 +12,12 @@ use Rattle.lists.specs.Records.{flat}
 use Rattle.fields.specs.declared.ByteOrder.{ByteOrder}
 use Rattle.fields.specs.declared.ByteOrder.the-variants.{Big}
 use Rattle.fields.specs.Numbers.{number, encoded}
-use Rattle.blocks.specs.Table.{Parsed}
 use Rattle.places.specs.declared.Placing.the-variants.{Placed}
 use Rattle.places.specs.Spans.{spanSize, place}
-use Rattle.places.specs.Walk.{placing, Walked}
+use Rattle.places.specs.Walk.{placing}
 use Rattle.spans.specs.declared.NextSpan.{NextSpan}
 use Rattle.spans.specs.declared.NextSpan.the-variants.{NoSpan, Span}
 use Rattle.spans.specs.Spans.{lineCount, isSpan, spanEnd}
-
--- the tables of a block file whose blocks are all placed
-pub record Laid (o : ByteOrder) (C B table places : List ℕ) : Type 0 where
-  pub parsed : Parsed B table
-  pub placed : placing o C B ≡ Placed
-  pub walked : Walked o C B places
 
 abbrev pickSpan : Bool → NextSpan → NextSpan → NextSpan
 pickSpan true a b = a

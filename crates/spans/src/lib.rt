@@ -7,9 +7,9 @@ ghost use Rattle.lists.specs.Ranges.{first, count};
 ghost use Rattle.lists.specs.Windows.{spliced};
 ghost use Rattle.blocks.specs.Blocks.{blockCount};
 ghost use Rattle.places.specs.Spans.{endAt};
-ghost use Rattle.places.specs.Walk.{Walked};
+ghost use Rattle.places.specs.Walk.{Walked, Laid};
 ghost use Rattle.spans.specs.Spans.{isSpan, lastEnd, replacedWord};
-ghost use Rattle.spans.specs.Table.{Laid, Gathered, Rows, Ascending, Stored, rowEnd, rowBehind, nextSpan};
+ghost use Rattle.spans.specs.Table.{Gathered, Rows, Ascending, Stored, rowEnd, rowBehind, nextSpan};
 use fields::ByteOrder;
 
 // The first span of a section that ends behind an offset: none, or its place and its size.

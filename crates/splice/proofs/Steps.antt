@@ -13,10 +13,9 @@ use Rattle.scope.specs.declared.Finding.{Finding}
 use Rattle.scope.specs.declared.Finding.the-variants.{Clear, At}
 use Rattle.elf.specs.Readers.{sectionCount, contents}
 use Rattle.elf.specs.Bounds.{Headed}
-use Rattle.symbols.specs.Symbols.{symbolStrings}
 use Rattle.object.specs.declared.View.{View}
-use Rattle.object.specs.Object.{viewOf}
-use Rattle.spans.specs.Table.{Laid}
+use Rattle.object.proofs.Order.{view-headed, view-table}
+use Rattle.places.specs.Walk.{Laid}
 use Rattle.missing.specs.Needed.{heldBytes}
 use Rattle.line_up.specs.declared.LineUp.{LineUp}
 use Rattle.line_up.specs.declared.LineUp.the-variants.{LinedUp, LacksCompiled, LacksAssembled, Mislabelled, LateMislabelled}
@@ -24,7 +23,7 @@ use Rattle.line_up.specs.Lined.{lineUp, ifLined}
 use Rattle.line_up.proofs.Agrees.{agrees-of}
 use Rattle.answers.specs.declared.Outcome.{Outcome}
 use Rattle.answers.specs.Answers.{Answer, refused, pickAnswer}
-use Rattle.answers.proofs.Answers.{outcome-length, output-zeroed}
+use Rattle.answers.proofs.Answered.{answered-output}
 use Rattle.buffers.specs.Buffers.{zeros, zeroedFrom}
 use Rattle.answers.specs.Answered.{Answered}
 use Rattle.inputs.specs.Read.{Given}
@@ -139,24 +138,17 @@ module _ (late rows : ℕ) (rest : Answer) where
 
 -- A's symbols' names are in a section that is there
 pub given-strings : (o : ByteOrder) (C A B : List ℕ) (c a : View) (n : ℕ) (p : ByteOrder) → Given o C A B c a n → p ≡ o → Headed p A × (a .«symbol_strings» < sectionCount p A)
-unfolding viewOf
-given-strings o C A B c a n p g q = rw q (g .assembled .named .headed, rw (g .assembledView) (g .assembled .tabled .strings))
+given-strings o C A B c a n p g q = rw q (view-headed o A a (g .assembledView) (g .assembled))
 
 pub given-opened : (o : ByteOrder) (C A B : List ℕ) (c a : View) (n : ℕ) (p : ByteOrder) (strings table places : List ℕ) → Given o C A B c a n → p ≡ o
     → Laid o C B table places → strings ≡ contents p A (a .«symbol_strings») → Opened p C A B (a .«symbols_at») (a .symbols) strings table places n
-unfolding viewOf symbolStrings
 given-opened o C A B c a n p strings table places g q l e =
     let r : o ≡ p = sym q in
     let h : Given p C A B c a n = rw r at g in
     record {
       compiled = h .compiled .named;
       assembled = h .assembled .named;
-      symbols = record {
-        tabled = h .assembled .tabled;
-        at = ap (λ (x : View). x .«symbols_at») (h .assembledView);
-        many = ap (λ (x : View). x .symbols) (h .assembledView);
-        names = e ∙ ap (λ (x : View). contents p A (x .«symbol_strings»)) (h .assembledView);
-      };
+      symbols = view-table p A a (h .assembledView) (h .assembled) strings e;
       laid = rw r at l;
       many = h .many;
       compiledSmall = h .compiledSmall;
@@ -169,7 +161,7 @@ pub spliced-of : (a : Answer) (r : Outcome) (out mid after t t′ p p′ l l′ 
     → t′ ≡ zeros (length t) → p′ ≡ zeros (length p) → l′ ≡ zeros (length l) → w′ ≡ zeros (length w) → Spliced a r out after t t′ p p′ l l′ w w′
 spliced-of a r out mid after t t′ p p′ l l′ w w′ d o e f g h = record {
   outcome = d .outcome;
-  output = o ∙ output-zeroed a mid (length out) (r .length) (ap (λ (x : Outcome). x .length) (d .outcome) ∙ outcome-length a) (d .long) (d .result);
+  output = o ∙ answered-output a r out mid d;
   tableZero = e;
   placesZero = f;
   lateZero = g;

@@ -8,7 +8,7 @@ use Rattle.scope.specs.Limits.{FILE_LIMIT}
 use Rattle.elf.specs.Bounds.{Named}
 use Rattle.symbols.specs.Symbols.{Table}
 use Rattle.blocks.specs.Blocks.{blockCount}
-use Rattle.spans.specs.Table.{Laid}
+use Rattle.places.specs.Walk.{Laid}
 use Rattle.missing.specs.Needed.{heldBytes}
 use Rattle.answers.specs.declared.Outcome.{Outcome}
 use Rattle.answers.specs.Answers.{Answer, outcomeOf, outputOf}

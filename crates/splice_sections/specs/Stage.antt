@@ -11,7 +11,7 @@ use Rattle.scope.specs.Limits.{FILE_LIMIT}
 use Rattle.elf.specs.Bounds.{Named}
 use Rattle.blocks.specs.Blocks.{blockCount}
 use Rattle.spans.specs.Spans.{coded}
-use Rattle.spans.specs.Table.{Laid}
+use Rattle.places.specs.Walk.{Laid}
 use Rattle.late_length.specs.Late.{lateRuns}
 use Rattle.late.specs.Table.{Moves}
 use Rattle.line_up.specs.Lined.{lateStart}

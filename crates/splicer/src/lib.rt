@@ -12,7 +12,7 @@ ghost use Rattle.object.specs.Object.{checkOf};
 ghost use Rattle.elf.specs.Readers.{orderOf};
 ghost use Rattle.answers.specs.Answers.{outcomeOf, outputOf, roomFor};
 ghost use Rattle.answers.specs.Answered.{Answered};
-ghost use Rattle.draft_text.specs.Job.{Job};
+ghost use Rattle.places.specs.Walk.{Laid};
 ghost use Rattle.splicer.specs.Verdict.{draftFrom, ifClear, ifSound, draftVerdict};
 ghost use Rattle.splicer.specs.Drafted.{Drafted};
 ghost use Rattle.draft_text.specs.Draft.{draftText};
@@ -33,7 +33,7 @@ fn draft_room(
     places: &[u8],
     count: usize,
 ) -> Outcome
-    requires { ⌜ Job order (now compiled) (now file) (now table) (now places) × (count ≡ blockCount (now file)) × (length (now prelude) ≤ 1048576) ⌝ }
+    requires { ⌜ Laid order (now compiled) (now file) (now table) (now places) × (count ≡ blockCount (now file)) × (length (now prelude) ≤ 1048576) ⌝ }
     ensures { λ r. ⌜ Answered (roomFor (draftText order (now (compiled .entry)) (now (file .entry)) (now (prelude .entry))) (length (now (out .entry)))) r (now (out .entry)) (now (out .exit)) ⌝ }
 {
     let n = draft_text::append_draft(out, order, compiled, prelude, file, table, places, count);
