@@ -22,10 +22,10 @@ use Rattle.late_runs.proofs.Runs.{IsRun}
 use Rattle.late_runs.proofs.Agree.{run-copied}
 
 module _ (o : ByteOrder) (C A B : List ℕ) (p : placing o C B ≡ Placed) where
-  long : length (coded o C 3) ≡ length (copied o C A B 3)
+  pub long : length (coded o C 3) ≡ length (copied o C A B 3)
   long = sym (length-copied o C A B 3)
 
-  agree : drop (endAt o C B (4 * blockCount B) 3) (coded o C 3) ≡ drop (endAt o C B (4 * blockCount B) 3) (copied o C A B 3)
+  pub agree : drop (endAt o C B (4 * blockCount B) 3) (coded o C 3) ≡ drop (endAt o C B (4 * blockCount B) 3) (copied o C A B 3)
   unfolding lastEnd
   agree = sym (copied-past o C A B 3 p)
 
