@@ -228,6 +228,8 @@ class Rust:
     """the oracle, asked for one merge after another; the path, the flag and the mode play no part in these sections"""
 
     def __init__(self):
+        if not os.path.exists(real_jobs.ORACLE):
+            sys.exit(f'{real_jobs.ORACLE} is not there: cargo build --release in oracle/')
         self.process = subprocess.Popen([real_jobs.ORACLE, 'serve'], stdin=subprocess.PIPE, stdout=subprocess.PIPE)
 
     def sections(self, compiled, assembled, file):

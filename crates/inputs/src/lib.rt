@@ -8,7 +8,7 @@ ghost use Rattle.elf.specs.Readers.{orderOf};
 ghost use Rattle.object.specs.Object.{viewOf};
 ghost use Rattle.blocks.specs.Blocks.{blockCount};
 ghost use Rattle.blocks.specs.Table.{Parsed};
-ghost use Rattle.scope.specs.Limits.{overLimits, InLimits};
+ghost use Rattle.scope.specs.Limits.{InLimits};
 ghost use Rattle.inputs.specs.Inputs.{assembledOf, placesOf, blocksOf, compiledOf, inputsOf};
 ghost use Rattle.inputs.specs.Read.{Opened, Read};
 use fields::ByteOrder;
@@ -145,25 +145,6 @@ fn read_compiled(
     }
 }
 
-// Whether a file is over its limit, or a working buffer below its constant.
-fn is_over(compiled: usize, assembled: usize, file: usize, table: usize, places: usize) -> bool
-    ensures { λ r. ⌜ r ≡ overLimits compiled assembled file table places ⌝ }
-{
-    if compiled > scope::FILE_LIMIT {
-        return true;
-    }
-    if assembled > scope::FILE_LIMIT {
-        return true;
-    }
-    if file > scope::FILE_LIMIT {
-        return true;
-    }
-    if table < scope::BLOCK_TABLE {
-        return true;
-    }
-    places < scope::PLACE_TABLE
-}
-
 // The inputs of a merge: refusal 1, then all the others.
 pub fn read_inputs(
     compiled: &[u8],
@@ -174,7 +155,7 @@ pub fn read_inputs(
 ) -> Inputs
     ensures { λ r. ⌜ Read (orderOf (now (compiled .entry))) (now (compiled .entry)) (now (file .entry)) (inputsOf (now (compiled .entry)) (now (assembled .entry)) (now (file .entry)) (length (now (table .entry))) (length (now (places .entry)))) r (now (table .exit)) (now (places .exit)) ⌝ }
 {
-    if is_over(
+    if scope::is_over(
         compiled.len(),
         assembled.len(),
         file.len(),

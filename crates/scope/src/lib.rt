@@ -3,6 +3,7 @@
 ghost use mathlib.Core.Path.{_≡_};
 ghost use mathlib.Core.Bool.{_&&_};
 ghost use Rattle.scope.specs.Codes.{codeType};
+ghost use Rattle.scope.specs.Limits.{overLimits};
 ghost use Rattle.scope.specs.Refusals.{expect, foundBelow};
 
 pub const FILE_LIMIT: usize = 1048576;
@@ -105,6 +106,25 @@ pub const PLACE_TABLE: usize = 32768;
 pub const LATE_TABLE: usize = 291920;
 
 pub const SPAN_TABLE: usize = 8192;
+
+// Refusal 1: whether C, the file beside it (a draft's prelude, a merge's A) or the block file is over the limit, or a working buffer below its constant.
+pub fn is_over(compiled: usize, beside: usize, file: usize, table: usize, places: usize) -> bool
+    ensures { λ r. ⌜ r ≡ overLimits compiled beside file table places ⌝ }
+{
+    if compiled > FILE_LIMIT {
+        return true;
+    }
+    if beside > FILE_LIMIT {
+        return true;
+    }
+    if file > FILE_LIMIT {
+        return true;
+    }
+    if table < BLOCK_TABLE {
+        return true;
+    }
+    places < PLACE_TABLE
+}
 
 // What the test of a refusal number finds: nothing at fault, or the place that is reported.
 pub enum Finding {

@@ -4,7 +4,7 @@ ghost use mathlib.Core.Path.{_≡_};
 ghost use Prim.Native.Nat.{_≤_};
 ghost use lib.ListN.{length};
 ghost use Rattle.buffers.specs.Buffers.{zeros};
-ghost use Rattle.scope.specs.Limits.{overLimits, InLimits};
+ghost use Rattle.scope.specs.Limits.{InLimits};
 ghost use Rattle.symbols.specs.Symbols.{Table};
 ghost use Rattle.blocks.specs.Blocks.{blockFault, blockCount};
 ghost use Rattle.blocks.specs.Table.{Parsed};
@@ -172,7 +172,7 @@ fn draft_all(
 ) -> Outcome
     ensures { λ r. ⌜ Answered (draftVerdict (now (compiled .entry)) (now (prelude .entry)) (now (file .entry)) (length (now (out .entry))) (length (now (table .entry))) (length (now (places .entry)))) r (now (out .entry)) (now (out .exit)) ⌝ }
 {
-    if is_over(
+    if scope::is_over(
         compiled.len(),
         prelude.len(),
         file.len(),
@@ -182,25 +182,6 @@ fn draft_all(
         return answers::refusal(scope::LIMITS, answers::NONE, 0);
     }
     draft_sound(compiled, prelude, file, out, table, places)
-}
-
-// Whether a file is over its limit, or a working buffer below its constant.
-fn is_over(compiled: usize, prelude: usize, file: usize, table: usize, places: usize) -> bool
-    ensures { λ r. ⌜ r ≡ overLimits compiled prelude file table places ⌝ }
-{
-    if compiled > scope::FILE_LIMIT {
-        return true;
-    }
-    if prelude > scope::FILE_LIMIT {
-        return true;
-    }
-    if file > scope::FILE_LIMIT {
-        return true;
-    }
-    if table < scope::BLOCK_TABLE {
-        return true;
-    }
-    places < scope::PLACE_TABLE
 }
 
 // The draft of a compiled object, a prelude and a block file.

@@ -1,7 +1,7 @@
 -- The five tests of refusal 1, in order. Assumes nothing.
 use Rattle.scope.proofs.Limits.{over-1, over-2, over-3, over-4, over-5}
-use Rattle.inputs.proofs.is_over.Statement.{statement}
-use Rattle.inputs.proofs.is_over.Tie as tie
+use Rattle.scope.proofs.is_over.Statement.{statement}
+use Rattle.scope.proofs.is_over.Tie as tie
 
 returns : tie.Need-returns
 returns c = over-1 _ _ _ _ _ (c .if1 .taken)
