@@ -265,6 +265,8 @@ def compare(seed, count):
             if theirs not in (None, got[1]):
                 wrong += 1
                 print(f'job {k} of seed {seed}: the Rust has {theirs!r}, the program {got[1]!r}')
+    if out[at:] != b'job %d is not there\n' % len(jobs):
+        sys.exit(f'behind the last job of seed {seed} the program prints {out[at:at + 200]!r}')
     print(f'{len(jobs)} jobs: {len(jobs) - accepted} refusals and {accepted} results as the model has them; {merged} results merged by the Rust, {wrong} of them otherwise')
     return wrong != 0
 
