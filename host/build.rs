@@ -11,18 +11,18 @@ fn main() {
     // A relative folder is meant from this package; an absolute one replaces it in `join`.
     let package = env::var("CARGO_MANIFEST_DIR").expect("cargo sets CARGO_MANIFEST_DIR");
     let folder = Path::new(&package).join(folder);
-    let archive = folder.join("libsplicer.a");
+    let archive = folder.join("libdraft_call.a");
     println!("cargo::rerun-if-changed={}", archive.display());
     if !archive.is_file() {
         println!(
-            "cargo::error={} is not there. Run `rt staticlib splicer` at the top of the \
-             repository, or set {VARIABLE} to the folder that holds libsplicer.a.",
+            "cargo::error={} is not there. Run `rt staticlib draft_call` at the top of the \
+             repository, or set {VARIABLE} to the folder that holds libdraft_call.a.",
             archive.display()
         );
         return;
     }
     println!("cargo::rustc-link-search=native={}", folder.display());
-    println!("cargo::rustc-link-lib=static=splicer");
+    println!("cargo::rustc-link-lib=static=draft_call");
     // The tests link a C program with the same file.
     println!("cargo::rustc-env=DAPHULLE_ARCHIVE={}", archive.display());
 }

@@ -1,7 +1,7 @@
 #!/usr/bin/env python3
-"""Makes the jobs that the programs draft and draft_jobs run, and what they must print.
+"""Makes the jobs that the programs draft and prog_draft_jobs run, and what they must print.
 
-  tools/draft_jobs.py            writes crates/draft/{data/draft.case,args,stdout} and crates/draft_jobs/{data/jobs,args,stdout}
+  tools/draft_jobs.py            writes crates/draft/{data/draft.case,args,stdout} and crates/prog_draft_jobs/{data/jobs,args,stdout}
 
 Compiled objects are real ones (Debian's gcc-mips-linux-gnu) or made here. Refusals come from the model of document 01 (MODEL, by default
 ../shared/model). Accepted drafts come from the unchanged Rust where the oracle is built (oracle/target/release/oracle), and the model must agree with it;
@@ -229,7 +229,7 @@ def main():
         path = os.path.join(TOP, 'crates', crate, name)
         os.makedirs(os.path.dirname(path), exist_ok=True)
         open(path, 'wb').write(content)
-    write('draft_jobs', 'data/jobs', data), write('draft_jobs', 'args', b'jobs\n'), write('draft_jobs', 'stdout', out)
+    write('prog_draft_jobs', 'data/jobs', data), write('prog_draft_jobs', 'args', b'jobs\n'), write('prog_draft_jobs', 'stdout', out)
     c, prelude, blocks = example()
     write('draft', 'data/draft.case', case(c, prelude, blocks))
     write('draft', 'args', b'draft.case\n'), write('draft', 'stdout', model.draft(c, prelude, blocks)[1])

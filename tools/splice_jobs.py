@@ -1,14 +1,15 @@
 #!/usr/bin/env python3
-"""Makes the jobs that the program splice_jobs runs, and what it must print.
+"""Makes the jobs that the program prog_splice_jobs runs, and what it must print.
 
-  tools/splice_jobs.py               writes crates/splice_jobs/{data/jobs,args,stdout}
-  tools/splice_jobs.py SEED COUNT    runs COUNT other jobs, made and damaged, through target/bin/splice_jobs, and compares each answer with the model's and,
+  tools/splice_jobs.py               writes crates/prog_splice_jobs/{data/jobs,args,stdout}
+  tools/splice_jobs.py SEED COUNT    runs COUNT other jobs, made and damaged, through target/bin/prog_splice_jobs, and compares each answer with the model's and,
                                      where the Rust (oracle/target/release/oracle) merges the job, with the sections of its object
   tools/splice_jobs.py speed         times both on jobs that grow
 
-A job is a compiled object, an assembled one and a block file. What is expected comes from the model of document 01 (MODEL, by default ../shared/model): the
-refusals of both objects, of the block file and of places, then 11 to 14; or the bytes that the merge writes over C's .text, .data, .rodata and .reginfo, one behind
-the other. Real jobs come from Debian's gcc-mips-linux-gnu and binutils-mips-linux-gnu: the model's draft is assembled. The program has no say.
+A job is a compiled object, an assembled one and a block file, and the lengths of the output and of the working buffers. What is expected comes from the model of
+document 01 (MODEL, by default ../shared/model): the refusals of lengths, of both objects, of the block file and of places, then 11 to 14 and 21; or the bytes that
+the merge writes over C's .text, .data, .rodata and .reginfo, one behind the other. Real jobs come from Debian's gcc-mips-linux-gnu and binutils-mips-linux-gnu: the
+model's draft is assembled. The program has no say.
 """
 import os
 import random
@@ -23,9 +24,12 @@ sys.path.insert(0, os.path.join(TOP, 'tools'))
 sys.path.insert(0, os.environ.get('MODEL', os.path.join(TOP, '..', 'shared', 'model')))
 import check_objects, draft_jobs, model, real_jobs  # noqa: E402
 
-KINDS = {b'.bss': 8, b'.reginfo': 0x70000006}
+KINDS = {b'.bss': 8, b'.reginfo': 0x70000006, b'.rel.text': 9, b'.rel.data': 9, b'.shstrtab': 3, b'.symtab': 2, b'.strtab': 3}
 WRITTEN = model.TEXT, model.DATA, model.RODATA, model.REGINFO
 LATE_LABELS = b'_asmpp_late_rodata_start', b'_asmpp_late_rodata_end'
+ROOM = 1310720                                  # the program's output, where a job does not say less
+BUFFERS = 49152, 32768, 291920, 8192            # docs/SIZES.md: the tables of blocks, of places, of the late step and of spans
+SH_TYPE, SH_LINK, SH_INFO, SH_ENTSIZE = 1, 6, 7, 9
 
 
 # ---------------------------------------------------------------- made objects
@@ -40,8 +44,10 @@ def made(sections, symbols):
     table = b'\0' + b''.join(n + b'\0' for n in names + [b'.shstrtab', b'.symtab', b'.strtab'])
     body, heads = b'', [check_objects.section_header(kind=0)]
     for name, data in list(sections.items()) + [(b'.shstrtab', table), (b'.symtab', entries), (b'.strtab', strings)]:
-        kind = {b'.shstrtab': 3, b'.symtab': 2, b'.strtab': 3}.get(name, KINDS.get(name, 1))
+        kind = KINDS.get(name, 1)
         more = dict(link=len(names) + 3, info=1, entsize=16) if kind == 2 else {}
+        if kind == 9:
+            more = dict(link=len(names) + 2, info=names.index(name[4:]) + 1, entsize=8)
         size = data if kind == 8 else len(data)
         heads.append(check_objects.section_header(table.index(b'\0' + name + b'\0') + 1, kind, 3, 0, 52 + len(body), size, align=4, **more))
         body += b'' if kind == 8 else data
@@ -53,7 +59,7 @@ def made(sections, symbols):
 class Splice:
     """the parts of a job, each of which a variation may change"""
 
-    def __init__(self, chance, blocks=2, late=True):
+    def __init__(self, chance, blocks=2, late=True, every=False):
         fill = lambda n: bytes(chance.randrange(1, 128) for _ in range(n))  # noqa: E731
         self.c = {b'.text': fill(64), b'.data': fill(48), b'.rodata': b'', b'.bss': 32, b'.reginfo': fill(24)}
         self.a = {b'.text': fill(64), b'.data': fill(48), b'.rodata': fill(64), b'.bss': 32, b'.reginfo': fill(24), b'.late_rodata': b''}
@@ -62,7 +68,7 @@ class Splice:
         for i in range(blocks):
             block = dict(desc=b'routine %d' % i)
             for key, section, at, size in (('text', b'.text', 8 + 24 * i, 8), ('data', b'.data', 4 + 16 * i, 6), ('rodata', b'.rodata', 4 + 6 * i, 4), ('bss', b'.bss', 12 * i, 8)):
-                if not chance.randrange(4):
+                if not every and not chance.randrange(4):
                     continue
                 label = b'_asmpp_%s%d' % (key.encode(), i)
                 block[key] = b'%s %d 0' % (label, size)
@@ -149,6 +155,96 @@ def damaged_jobs(count, seed):
         yield tuple(bytes(x) for x in job)
 
 
+# ---------------------------------------------------------------- jobs at a limit
+
+def whole():
+    """a splice with every line and late words"""
+    return Splice(random.Random(3), every=True)
+
+
+def length_jobs():
+    """refusals 1 and 21: lengths at what is asked for and one below or above it"""
+    for job in (Splice(random.Random(3), blocks=1, late=False).job(), whole().job()):
+        size = len(expected(*job)[1])
+        for room in (0, size - 1, size, size + 1):
+            yield *job, room
+    c, a, file = job
+    for k, least in enumerate(BUFFERS):
+        for length in (0, least - 1):
+            yield *job, ROOM, BUFFERS[:k] + (length,) + BUFFERS[k + 1:]
+    for length in (model.FILE_LIMIT, model.FILE_LIMIT + 1):
+        yield c.ljust(length, b'\0'), b'', b''
+        yield c, a.ljust(length, b'\0'), b''
+        yield c, a, file.ljust(length, b'\0')
+    yield b'', b'', b'x', 0, (0, 0, 0, 0)                           # 1 before all others
+    splice = whole()
+    splice.c[b'.rodata'] = bytes(99)
+    yield *splice.job(), 0                                          # 14 before 21
+
+
+def header_jobs():
+    """refusal 2: each field of C's file header and of A's, and files that are too short"""
+    c, a, file = whole().job()
+    for at, new in [(at, bytes([c[at] ^ 1])) for at in (0, 1, 2, 3, 4, 5, 17, 19, 31, 46)] + [(32, bytes(4)), (50, bytes(2))]:
+        yield model.splice(c, at, new), a, file
+        yield c, model.splice(a, at, new), file
+    for length in (0, 51):
+        yield c[:length], a, file
+        yield c, a[:length], file
+    yield model.splice(c, 5, b'\1'), a[:3], file                    # C before A
+
+
+def table_jobs():
+    """refusal 6: each field of a relocation table of C and of A"""
+    splice = whole()
+    for sections in (splice.c, splice.a):
+        sections.update({b'.rel.text': bytes(16), b'.rel.data': bytes(8)})
+    c, a, file = splice.job()
+    yield c, a, file
+
+    def wrong(b, sections, table, field, value):
+        return model.splice(b, model.be32(b, 32) + 40 * (list(sections).index(table) + 1) + 4 * field, struct.pack('>I', value))
+    for table, field, value in ((b'.rel.text', SH_ENTSIZE, 4), (b'.rel.data', SH_ENTSIZE, 4), (b'.rel.text', SH_TYPE, 4), (b'.rel.data', SH_LINK, 0), (b'.rel.text', SH_INFO, 99)):
+        yield wrong(c, splice.c, table, field, value), a, file
+        yield c, wrong(a, splice.a, table, field, value), file
+    yield wrong(c, splice.c, b'.rel.data', SH_LINK, 0), wrong(a, splice.a, b'.rel.text', SH_LINK, 0), file
+    # the first section that is not there, and the last that is
+    for value in (len(splice.a) + 4, len(splice.a) + 3):
+        yield c, wrong(a, splice.a, b'.rel.text', SH_INFO, value), file
+
+
+def place_jobs():
+    """refusals 8 and 9: sizes, places and alignments of each line of each block"""
+    def changed(*lines):
+        splice = whole()
+        for k, key, size, align8 in lines:
+            label, old, _ = splice.blocks[k][key].split(b' ')
+            splice.blocks[k][key] = b'%s %d %d' % (label, int(old) if size is None else size, align8)
+        return splice
+    for k in (0, 1):
+        for key in draft_jobs.FOUR:
+            yield changed((k, key, 0, 0)).job()
+            for align8 in (4, 8):
+                yield changed((k, key, None, align8)).job()
+    for key, end in (('text', 16), ('data', 10), ('rodata', 8), ('bss', 8)):
+        for value in (end - 1, end):
+            splice = whole()
+            set_symbol(splice.c_symbols, b'_asmpp_%s1' % key.encode(), value=value)
+            yield splice.job()
+    for size in (0, None):                                          # a label that is not there, of size 0 and before one of size 0
+        splice = changed((1, 'text', size, 0), (1, 'bss', 0, 0))
+        set_symbol(splice.c_symbols, b'_asmpp_text1', name=b'other')
+        yield splice.job()
+    yield changed((0, 'data', None, 8), (1, 'text', 0, 0)).job()    # 9 in block 0 before 8 in block 1
+    yield changed((0, 'text', 0, 4), (0, 'data', None, 8)).job()    # 8 before 9 in a line
+    c, _, file = changed((1, 'bss', 0, 0)).job()
+    yield c, b'', file                                              # 8 before A's 2
+
+
+def limit_jobs():
+    return [*length_jobs(), *header_jobs(), *table_jobs(), *place_jobs()]
+
+
 # ---------------------------------------------------------------- real jobs
 
 def late_blocks(blocks):
@@ -178,9 +274,9 @@ def real_splices():
 
 # ---------------------------------------------------------------- what is expected
 
-def expected(compiled, assembled, file):
+def expected(compiled, assembled, file, room=ROOM, buffers=BUFFERS):
     """the model's refusal of these stages, or the bytes of the four sections"""
-    if max(map(len, (compiled, assembled, file))) > model.FILE_LIMIT:
+    if max(map(len, (compiled, assembled, file))) > model.FILE_LIMIT or any(n < least for n, least in zip(buffers, BUFFERS)):
         return 'refused', 1, 0, 0
     r = model.object_refusal(compiled, model.OBJ_C)
     if r:
@@ -210,11 +306,15 @@ def expected(compiled, assembled, file):
         held[model.RODATA] = moves.rodata
     if held[model.REGINFO]:
         held[model.REGINFO] = model.or_reginfo(held[model.REGINFO], a.sections[model.find(a, model.REGINFO)].data)
-    return 'ok', b''.join(held[code] for code in WRITTEN)
+    out = b''.join(held[code] for code in WRITTEN)
+    return ('ok', out) if len(out) <= room else ('refused', 21, 0, len(out))
 
 
-def packed(job):
-    return struct.pack('>III', *map(len, job)) + b''.join(job)
+def packed(compiled, assembled, file, room=ROOM, buffers=BUFFERS):
+    """a job in the list; zeros at the end of its files are left out"""
+    files = compiled, assembled, file
+    stored = b''.join(files).rstrip(b'\0')
+    return struct.pack('>9I', *map(len, files), len(stored), room, *buffers) + stored
 
 
 def written(k, got):
@@ -225,32 +325,36 @@ def written(k, got):
 # ---------------------------------------------------------------- beside the Rust
 
 class Rust:
-    """the oracle, asked for one merge after another; the path, the flag and the mode play no part in these sections"""
+    """the oracle, asked for one merge after another"""
 
     def __init__(self):
         if not os.path.exists(real_jobs.ORACLE):
             sys.exit(f'{real_jobs.ORACLE} is not there: cargo build --release in oracle/')
         self.process = subprocess.Popen([real_jobs.ORACLE, 'serve'], stdin=subprocess.PIPE, stdout=subprocess.PIPE)
 
-    def sections(self, compiled, assembled, file):
-        """the bytes of the four sections of the merged object; nothing where the Rust has none"""
-        fields = (compiled, assembled, b'', file, b'c.o')
-        self.process.stdin.write(b'\x01' + b''.join(struct.pack('>I', len(x)) + x for x in fields) + bytes(2))
+    def merged(self, compiled, assembled, file, path=b'c.o', mode=0):
+        """the merged object, with no section dropped; nothing where the Rust has none"""
+        fields = (compiled, assembled, b'', file, path)
+        self.process.stdin.write(b'\x01' + b''.join(struct.pack('>I', len(x)) + x for x in fields) + bytes([0, mode]))
         self.process.stdin.flush()
         kind, length = struct.unpack('>BI', self.process.stdout.read(5))
         answer = self.process.stdout.read(length)
-        if kind != 0:
+        return model.read_object(answer) if kind == 0 else None
+
+    def sections(self, compiled, assembled, file):
+        """the bytes of the four sections of the merged object, in which path and mode play no part; nothing where the Rust has none"""
+        merged = self.merged(compiled, assembled, file)
+        if merged is None:
             return None
-        merged = model.read_object(answer)
         return b''.join(merged.sections[at].data for at in (model.find(merged, code) for code in WRITTEN) if at is not None)
 
 
 def compare(seed, count):
     jobs = [*made_jobs(seed, count // 2), *damaged_jobs(count - count // 2, seed + 1)]
     with tempfile.NamedTemporaryFile() as f:
-        f.write(b''.join(map(packed, jobs)))
+        f.write(b''.join(packed(*job) for job in jobs))
         f.flush()
-        out = subprocess.run([os.path.join(TOP, 'target', 'bin', 'splice_jobs'), f.name], stdout=subprocess.PIPE, check=True).stdout
+        out = subprocess.run([os.path.join(TOP, 'target', 'bin', 'prog_splice_jobs'), f.name], stdout=subprocess.PIPE, check=True).stdout
     rust, at, accepted, merged, wrong = Rust(), 0, 0, 0, 0
     for k, job in enumerate(jobs):
         got = expected(*job)
@@ -268,7 +372,7 @@ def compare(seed, count):
     if out[at:] != b'job %d is not there\n' % len(jobs):
         sys.exit(f'behind the last job of seed {seed} the program prints {out[at:at + 200]!r}')
     print(f'{len(jobs)} jobs: {len(jobs) - accepted} refusals and {accepted} results as the model has them; {merged} results merged by the Rust, {wrong} of them otherwise')
-    return wrong != 0
+    return wrong != 0 or merged == 0
 
 
 def grown(blocks, dummies, table=8):
@@ -297,7 +401,7 @@ def seconds(run, times):
 
 def speed(copies=20, times=5):
     """the program's time for a job is that of a list of copies, less that of a list with none; the Rust's is that of a whole merge"""
-    rust, program = Rust(), os.path.join(TOP, 'target', 'bin', 'splice_jobs')
+    rust, program = Rust(), os.path.join(TOP, 'target', 'bin', 'prog_splice_jobs')
     print('blocks, late words, bytes: microseconds of the program, of the Rust')
     with tempfile.NamedTemporaryFile() as none, tempfile.NamedTemporaryFile() as f:
         run = lambda name: subprocess.run([program, name], stdout=subprocess.DEVNULL, check=True)  # noqa: E731
@@ -307,7 +411,7 @@ def speed(copies=20, times=5):
                 sys.exit('the Rust has other sections')
             f.seek(0)
             f.truncate()
-            f.write(packed(job) * copies)
+            f.write(packed(*job) * copies)
             f.flush()
             ours = (seconds(lambda: run(f.name), times) - seconds(lambda: run(none.name), times)) / copies
             theirs = seconds(lambda: rust.sections(*job), times)
@@ -319,15 +423,15 @@ def main():
         return speed()
     if len(sys.argv) == 3:
         sys.exit(compare(int(sys.argv[1]), int(sys.argv[2])))
-    jobs = [*made_jobs(1, 6 * len(VARIATIONS)), *damaged_jobs(60, 2), *real_splices()]
+    jobs = [*made_jobs(1, 6 * len(VARIATIONS)), *damaged_jobs(60, 2), *real_splices(), *limit_jobs()]
     data, out, numbers = b'', b'', {}
     for k, job in enumerate(jobs):
         got = expected(*job)
-        data, out = data + packed(job), out + written(k, got)
+        data, out = data + packed(*job), out + written(k, got)
         number = 0 if got[0] == 'ok' else got[1]
         numbers[number] = numbers.get(number, 0) + 1
     out += b'job %d is not there\n' % len(jobs)
-    folder = os.path.join(TOP, 'crates', 'splice_jobs')
+    folder = os.path.join(TOP, 'crates', 'prog_splice_jobs')
     os.makedirs(os.path.join(folder, 'data'), exist_ok=True)
     for name, content in (('data/jobs', data), ('args', b'jobs\n'), ('stdout', out)):
         with open(os.path.join(folder, name), 'wb') as f:

@@ -1,5 +1,5 @@
-/* Daphulle, a proved object splicer for MIPS firmware: the calls of libsplicer.a
- * (`rt staticlib splicer` at the top of the repository writes it).
+/* Daphulle, a proved object splicer for MIPS firmware: the calls of libdraft_call.a
+ * (`rt staticlib draft_call` at the top of the repository writes it).
  *
  * A call answers every input. Whatever the bytes and the lengths are, it reads
  * only what it is lent, writes only its buffers, ends, and gives back what

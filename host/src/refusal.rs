@@ -97,7 +97,7 @@ impl fmt::Display for Broken {
         } = self.0;
         write!(
             f,
-            "the linked libsplicer.a is not the proved one: it answered length {length}, \
+            "the linked libdraft_call.a is not the proved one: it answered length {length}, \
              number {number}, object {object}, place {place}"
         )
     }

@@ -1,4 +1,4 @@
-//! The recorded draft jobs of `crates/draft_jobs`, through the library: every draft and every
+//! The recorded draft jobs of `crates/prog_draft_jobs`, through the library: every draft and every
 //! refusal is the one that the model of document 01 and the Rust gave.
 
 mod common;
@@ -7,7 +7,7 @@ use common::object;
 use daphulle::{Error, Inputs, draft_within, words};
 use std::fs;
 
-const FOLDER: &str = concat!(env!("CARGO_MANIFEST_DIR"), "/../crates/draft_jobs");
+const FOLDER: &str = concat!(env!("CARGO_MANIFEST_DIR"), "/../crates/prog_draft_jobs");
 
 /// Takes so many bytes from the front.
 fn take<'a>(bytes: &mut &'a [u8], length: usize) -> &'a [u8] {

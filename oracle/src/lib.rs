@@ -6,6 +6,8 @@
 extern crate std_standin as std;
 
 mod blocks;
+#[cfg(test)]
+mod digest;
 
 include!(concat!(env!("OUT_DIR"), "/module.rs"));
 

@@ -33,7 +33,8 @@ pub struct Tally {
     pub jobs: u64,
     /// Drafts that are the Rust's, byte for byte.
     pub drafts: u64,
-    /// Drafts that are the model's: of jobs with bytes over 127, where the Rust may give no verdict.
+    /// Drafts that are the model's. Where the Rust is there, the model is asked for those of jobs
+    /// with bytes over 127 alone, for which the Rust may give no verdict.
     pub model_drafts: u64,
     /// Drafts too long to be held, whose length is the model's.
     pub long: u64,
@@ -45,8 +46,12 @@ pub struct Tally {
     pub differences: BTreeMap<&'static str, u64>,
     /// Reasons for which the Rust gave no verdict.
     pub no_verdict: BTreeMap<String, u64>,
-    /// Drafts without a verdict of the Rust that the model was not asked for.
-    pub unasked: u64,
+    /// Jobs that were held against a verdict of the Rust, and against one of the model.
+    pub by_rust: u64,
+    pub by_model: u64,
+    /// Drafts and refusals that were held against neither.
+    pub drafts_alone: u64,
+    pub refusals_alone: u64,
     /// A digest of each thousand answers, in order.
     pub digests: Vec<u64>,
 }
@@ -99,11 +104,14 @@ pub fn held_against(
     found: &mut Vec<Difference>,
 ) -> io::Result<()> {
     let Others { rust, model } = others;
+    let alone = rust.is_none();
     let (by_rust, by_model) = thread::scope(|scope| {
         let by_rust = scope.spawn(|| ask(batch, rust, |rust, job, _| rust.draft(job)));
         let by_model = ask(batch, model, |model, job, verdict| match verdict {
-            // The Rust is asked for these, but where it gives no verdict.
-            Verdict::Draft(_) if job.blocks.is_ascii() && job.prelude.is_ascii() => Ok(None),
+            // The Rust is asked for these.
+            Verdict::Draft(_) if !alone && job.blocks.is_ascii() && job.prelude.is_ascii() => {
+                Ok(None)
+            }
             Verdict::Draft(_) => model.draft(job, u64::MAX).map(Some),
             Verdict::Long(_) => model.draft(job, HELD).map(Some),
             Verdict::Refused(_) => model.draft(job, u64::MAX).map(Some),
@@ -162,38 +170,47 @@ fn judge(
     if let Verdict::Refused(refusal) = verdict {
         *tally.refused.entry(refusal.number).or_default() += 1;
     }
-    match (verdict, rust) {
-        (_, None) => Ok(()),
+    let by_rust = match (verdict, rust) {
+        (_, None) => false,
         // A block file is this project's form: what the oracle makes of a bad one means nothing.
-        (Verdict::Refused(Refusal { number: 7, .. }), _) => Ok(()),
+        (Verdict::Refused(Refusal { number: 7, .. }), _) => false,
         (_, Some(RustAnswer::NoVerdict(reason))) => {
             let reason = reason.split([':', '(']).next().unwrap_or_default().trim();
             *tally.no_verdict.entry(reason.into()).or_default() += 1;
-            if matches!((verdict, model), (Verdict::Draft(_), None)) {
-                tally.unasked += 1;
-            }
-            Ok(())
+            false
         }
         (Verdict::Draft(draft), Some(RustAnswer::Draft(same))) if draft == same => {
             tally.drafts += 1;
-            Ok(())
+            true
         }
         (Verdict::Long(length), Some(RustAnswer::Draft(same))) if *length == same.len() as u64 => {
-            Ok(())
+            true
         }
         (Verdict::Refused(_), Some(RustAnswer::Refused(_))) => {
             tally.refused_by_rust += 1;
-            Ok(())
+            true
         }
         (Verdict::Refused(refusal), Some(RustAnswer::Draft(_))) => {
             let row = differences::row(*refusal, job)
                 .ok_or_else(|| format!("the Rust accepts, and no row has it; {verdict}"))?;
             *tally.differences.entry(row).or_default() += 1;
-            Ok(())
+            true
         }
-        (_, Some(RustAnswer::Draft(_))) => Err(format!("the Rust's draft is another; {verdict}")),
-        (_, Some(RustAnswer::Refused(words))) => Err(format!("the Rust: {words}; {verdict}")),
+        (_, Some(RustAnswer::Draft(_))) => {
+            return Err(format!("the Rust's draft is another; {verdict}"));
+        }
+        (_, Some(RustAnswer::Refused(words))) => {
+            return Err(format!("the Rust: {words}; {verdict}"));
+        }
+    };
+    tally.by_rust += u64::from(by_rust);
+    tally.by_model += u64::from(model.is_some());
+    match verdict {
+        _ if by_rust || model.is_some() => (),
+        Verdict::Refused(_) => tally.refusals_alone += 1,
+        Verdict::Draft(_) | Verdict::Long(_) => tally.drafts_alone += 1,
     }
+    Ok(())
 }
 
 fn agrees(verdict: &Verdict, model: &ModelAnswer) -> bool {
@@ -242,11 +259,7 @@ impl fmt::Display for Tally {
         let refused: u64 = self.refused.values().sum();
         writeln!(f, "{:>9} jobs", self.jobs)?;
         writeln!(f, "{:>9} drafts are the Rust's", self.drafts)?;
-        writeln!(
-            f,
-            "{:>9} drafts with bytes over 127 are the model's too",
-            self.model_drafts
-        )?;
+        writeln!(f, "{:>9} drafts are the model's", self.model_drafts)?;
         writeln!(
             f,
             "{:>9} drafts over {HELD} bytes have the model's length",
@@ -274,7 +287,15 @@ impl fmt::Display for Tally {
         for (reason, count) in &self.no_verdict {
             writeln!(f, "{count:>19} {reason}")?;
         }
-        writeln!(f, "{:>9} drafts that nobody was asked for", self.unasked)?;
+        for (count, what) in [
+            (self.drafts_alone, "drafts"),
+            (self.refusals_alone, "refusals"),
+        ] {
+            writeln!(
+                f,
+                "{count:>9} {what} held against neither the Rust nor the model"
+            )?;
+        }
         Ok(())
     }
 }
@@ -300,7 +321,12 @@ mod tests {
     #[test]
     fn a_difference_is_found() {
         let mut tally = Tally::default();
-        let job = Job::default();
+        // e_shentsize is 41.
+        let compiled = [&[0; 47][..], &[41]].concat();
+        let job = Job {
+            compiled,
+            ..Job::default()
+        };
         let mut judge = |verdict, rust: Option<RustAnswer>, model: Option<ModelAnswer>| {
             judge(&job, &verdict, rust.as_ref(), model.as_ref(), &mut tally).is_ok()
         };
@@ -324,5 +350,44 @@ mod tests {
         assert!(!judge(ours(8, 3), rust(b""), model(8, 3)));
         assert!(judge(ours(2, 46), rust(b""), model(2, 46)));
         assert!(!judge(ours(2, 18), rust(b""), model(2, 18)));
+        assert!(!judge(ours(5, 1), rust(b""), None));
+    }
+
+    #[test]
+    fn a_report_says_what_was_held_against_nobody() {
+        let report = |rust: Option<RustAnswer>, model: Option<ModelAnswer>| {
+            let mut tally = Tally::default();
+            let job = Job::default();
+            for verdict in [
+                Verdict::Draft(vec![]),
+                Verdict::Long(5),
+                Verdict::Refused(refused(8, 0)),
+                Verdict::Refused(refused(7, 1)),
+            ] {
+                let model = model.as_ref().map(|_| match &verdict {
+                    Verdict::Draft(draft) => ModelAnswer::Draft(draft.clone()),
+                    Verdict::Long(length) => ModelAnswer::Refused(Refusal {
+                        number: 21,
+                        object: 0,
+                        place: *length,
+                    }),
+                    Verdict::Refused(refusal) => ModelAnswer::Refused(*refusal),
+                });
+                judge(&job, &verdict, rust.as_ref(), model.as_ref(), &mut tally).unwrap();
+            }
+            tally.to_string()
+        };
+        let alone = |drafts, refusals| {
+            format!(
+                "{drafts:>9} drafts held against neither the Rust nor the model\n\
+                 {refusals:>9} refusals held against neither the Rust nor the model\n"
+            )
+        };
+        let silent = || Some(RustAnswer::NoVerdict("memory".into()));
+        let model = || Some(ModelAnswer::Draft(vec![]));
+        assert!(report(None, None).ends_with(&alone(2, 2)));
+        assert!(report(silent(), None).ends_with(&alone(2, 2)));
+        assert!(report(None, model()).ends_with(&alone(0, 0)));
+        assert!(report(silent(), model()).ends_with(&alone(0, 0)));
     }
 }

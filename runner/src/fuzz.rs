@@ -3,7 +3,7 @@
 //! checked; inputs and buffers lie against pages that nobody may touch.
 
 use crate::{
-    compare::{Others, held_against},
+    compare::{Others, Tally, held_against},
     damage::{damage_lines, damage_object},
     fence::Fence,
     job::{Job, job},
@@ -238,7 +238,7 @@ fn again(
     kept: Vec<Job>,
     others: &mut Others,
 ) -> io::Result<bool> {
-    let (mut tally, mut found, mut batch) = (Default::default(), vec![], vec![]);
+    let (mut tally, mut found, mut batch) = (Tally::default(), vec![], vec![]);
     for (i, job) in (0..).zip(kept) {
         // Until the buffers are long enough for an answer that does not speak of them.
         let verdict = (0..1000).find_map(|_| match target.call(random, &job) {
@@ -262,8 +262,10 @@ fn again(
         );
     }
     println!(
-        "{} of the kept jobs held against the Rust and the model, {} differences",
+        "{} of the kept jobs called again, {} held against the Rust, {} against the model, {} differences",
         batch.len(),
+        tally.by_rust,
+        tally.by_model,
         found.len()
     );
     Ok(found.is_empty())

@@ -153,14 +153,16 @@ fn run(seed: u64, jobs: u64, time: Option<Duration>, record: Option<&str>) -> io
 }
 
 /// Runs the jobs of a list again, against those of the others that are there, and against the
-/// list's own digests, which stand for both.
+/// list's own digests, which stand for both. A list that is not run to its end fails.
 fn replay(file: &str, time: Option<Duration>) -> io::Result<ExitCode> {
     let mut others = others()?;
     let start = Instant::now();
-    let (mut jobs, mut wrong) = (0, 0);
-    for line in fs::read_to_string(file)?.lines() {
-        if time.is_some_and(|time| start.elapsed() > time) {
-            println!("The time is over; the rest of the list is left out.");
+    let list = fs::read_to_string(file)?;
+    let lines: Vec<&str> = list.lines().collect();
+    let (mut done, mut wrong) = (0, 0);
+    let (mut jobs, mut by_rust, mut by_model) = (0, 0, 0);
+    for line in &lines {
+        if done > 0 && time.is_some_and(|time| start.elapsed() >= time) {
             break;
         }
         let [seed, first, digest] = line.split(' ').collect::<Vec<_>>()[..] else {
@@ -188,13 +190,27 @@ fn replay(file: &str, time: Option<Duration>) -> io::Result<ExitCode> {
         if !same {
             println!("DIFFERENCE seed {seed} jobs from {first}: the answers are not the list's");
         }
+        done += 1;
         jobs += tally.jobs;
+        by_rust += tally.by_rust;
+        by_model += tally.by_model;
         wrong += found.len() + usize::from(!same);
     }
-    let seconds = start.elapsed().as_secs_f64();
-    println!("{jobs} jobs of the list in {seconds:.1} seconds, {wrong} differences");
+    let whole = done == lines.len() && done > 0;
+    if !whole {
+        println!(
+            "FAILED: {done} of the list's {} lines were run",
+            lines.len()
+        );
+    }
+    println!(
+        "{jobs} of {} jobs of the list in {:.1} seconds, {by_rust} held against the Rust, \
+         {by_model} against the model, {wrong} differences",
+        BATCH * lines.len() as u64,
+        start.elapsed().as_secs_f64()
+    );
     match wrong {
-        0 if jobs > 0 => Ok(ExitCode::SUCCESS),
+        0 if whole => Ok(ExitCode::SUCCESS),
         _ => Ok(ExitCode::FAILURE),
     }
 }

@@ -1,9 +1,9 @@
 // Checks objects as document 01 does: for each file that it is given it prints the name and `accepted`, or `refused`, number and place.
+use elf_check::Checked;
 use libc::STDOUT_FILENO;
-use object::Checked;
 
 // A byte more than the largest file that document 01 takes, so that a longer one is seen to be longer.
-const ROOM: usize = 1048577;
+const ROOM: usize = base_scope::FILE_LIMIT + 1;
 
 fn print_refusal(number: u32, place: usize) {
     io::write_all(STDOUT_FILENO, b"refused ");
@@ -14,7 +14,7 @@ fn print_refusal(number: u32, place: usize) {
 
 fn print_answer(answer: Checked) {
     match answer {
-        Checked::Accepted(_) => {
+        Checked::Accepted => {
             io::write_all(STDOUT_FILENO, b"accepted");
         }
         Checked::Refused(number, place) => {
@@ -25,7 +25,7 @@ fn print_answer(answer: Checked) {
 
 fn check_read(fd: i32, file: &mut [u8]) {
     let n = io::read_full(fd, file);
-    print_answer(object::check(&file[..n]));
+    print_answer(elf_check::check(&file[..n]));
 }
 
 fn room() -> [u8; ROOM] {

@@ -4,18 +4,18 @@
 use libc::STDOUT_FILENO;
 
 fn draft_parts(compiled: &[u8], prelude: &[u8], blocks: &[u8], out: &mut [u8]) {
-    let r = cases::draft(compiled, prelude, blocks, out);
+    let r = prog_cases::run_draft(compiled, prelude, blocks, out);
     if r.number == 0 {
-        cases::print_front(out, r.length);
+        prog_cases::print_front(out, r.length);
     } else {
-        cases::print_refusal(r);
+        prog_cases::print_refusal(r);
     }
 }
 
 fn draft_case(case: &[u8], out: &mut [u8]) {
-    let a = 12 + cases::length_at(case, 0);
-    let b = a + cases::length_at(case, 4);
-    let e = b + cases::length_at(case, 8);
+    let a = 12 + prog_cases::length_at(case, 0);
+    let b = a + prog_cases::length_at(case, 4);
+    let e = b + prog_cases::length_at(case, 8);
     if e > case.len() {
         io::write_all(STDOUT_FILENO, b"the case is cut short\n");
         return;
@@ -29,8 +29,8 @@ fn draft_read(fd: i32, case: &mut [u8], out: &mut [u8]) {
 }
 
 fn draft_open(fd: i32) {
-    let mut case = cases::room();
-    let mut out = cases::room();
+    let mut case = prog_cases::room();
+    let mut out = prog_cases::room();
     draft_read(fd, &mut case, &mut out);
 }
 

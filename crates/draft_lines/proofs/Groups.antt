@@ -6,13 +6,14 @@ use mathlib.Core.Bool.{true, false}
 use mathlib.Core.List.{List, _++_, append-assoc, append-nil}
 use native.Mathlib.Omega.{arith}
 use lib.ListN.{length}
-use Rattle.lists.specs.Written.{Written}
-use Rattle.lists.proofs.Written.{written-then, written-as}
-use Rattle.lines.specs.Lines.{lineEnd, next}
-use Rattle.lines.specs.Keys.{valueAt, isKeyLine}
-use Rattle.lines.proofs.Lines.{next-low, next-high}
-use Rattle.lines.proofs.Keys.{key-line-whole}
-use Rattle.draft_lines.specs.Lines.{lined, groupLines}
+use Rattle.base_lists.specs.Written.{Written}
+use Rattle.base_lists.proofs.Written.{written-then, written-as}
+use Rattle.base_text.specs.Lines.{lined}
+use Rattle.blocks_lines.specs.Lines.{lineEnd, next}
+use Rattle.blocks_lines.specs.Keys.{KEYS, valueAt, isKeyLine}
+use Rattle.blocks_lines.proofs.Lines.{next-low, next-high}
+use Rattle.blocks_lines.proofs.Keys.{key-line-whole}
+use Rattle.draft_lines.specs.Lines.{groupLines}
 use Rattle.draft_lines.proofs.Lines.{value-short, group-lines-here, group-lines-next}
 
 -- the line behind a line of the key starts behind it and inside the file, or at its end
@@ -21,7 +22,7 @@ unfolding next
 key-line-turn B k a t = (next-low B a, next-high B a (key-line-whole B k a t))
 
 module _ (B : List ℕ) (k : ℕ) (o : List ℕ) (at from : ℕ) (p : List ℕ) (end i : ℕ) (s : List ℕ) where
-  pub group-turn : (r : ℕ) (q : List ℕ) (j : ℕ) → k < 11 → isKeyLine B k i ≡ true → j ≡ lineEnd B i + 1 → end + from ≤ at + i
+  pub group-turn : (r : ℕ) (q : List ℕ) (j : ℕ) → k < KEYS → isKeyLine B k i ≡ true → j ≡ lineEnd B i + 1 → end + from ≤ at + i
       → Written o at s end p → groupLines B k from ≡ s ++ groupLines B k i → Written p end (lined (valueAt B k i)) r q
       → (j ≤ length B) × (r + from ≤ at + j) × (u : List ℕ) × Written o at u r q × (groupLines B k from ≡ u ++ groupLines B k j)
   unfolding next

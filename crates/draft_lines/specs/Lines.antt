@@ -1,27 +1,15 @@
 -- The lines that a draft is made of (document 01, "Draft: 000's lines, each with LF").
-use Prim.Native.Nat.{ℕ, zero, suc, _+_, _-_, _/_, _%_}
-use mathlib.Core.Bool.{Bool, true, false}
-use mathlib.Core.List.{List, [], _∷_, _++_}
+use Prim.Native.Nat.{ℕ, zero, suc, _-_}
+use mathlib.Core.Bool.{true}
+use mathlib.Core.List.{List, [], _++_}
 use lib.ListN.{length}
-use lib.Dec.{ltb}
-use Rattle.lists.specs.Ranges.{gather, pickList}
-use Rattle.scope.specs.Text.{text}
-use Rattle.scope.specs.Codes.{codeName}
-use Rattle.lines.specs.Lines.{next}
-use Rattle.lines.specs.Keys.{isKeyLine, valueAt}
-
--- a line and its LF
-unfoldable pub lined : List ℕ → List ℕ
-lined s = s ++ (10 ∷ [])
-
--- the decimal digits of a number of at most k + 1 digits
-unfoldable pub digitsText : ℕ → ℕ → List ℕ
-digitsText zero n = (48 + n) ∷ []
-digitsText (suc k) n = pickList (ltb n 10) ((48 + n) ∷ []) (digitsText k (n / 10) ++ ((48 + n % 10) ∷ []))
-
--- of a number below 10 ^ 10: a distance between two places fits
-unfoldable pub decimalText : ℕ → List ℕ
-decimalText n = digitsText 9 n
+use Rattle.base_lists.specs.Ranges.{gather, pickList}
+use Rattle.base_scope.specs.Text.{text}
+use Rattle.base_scope.specs.Codes.{codeName}
+use Rattle.base_text.specs.Lines.{lined}
+use Rattle.base_text.specs.Decimals.{decimalText}
+use Rattle.blocks_lines.specs.Lines.{next}
+use Rattle.blocks_lines.specs.Keys.{isKeyLine, valueAt}
 
 -- `.section .text` and so on
 unfoldable pub sectionLine : ℕ → List ℕ

@@ -3,39 +3,20 @@
 ghost use mathlib.Core.Path.{_≡_};
 ghost use mathlib.Core.Bool.{true};
 ghost use Prim.Native.Nat.{_+_, _*_, _≤_, _<_};
-ghost use lib.ListN.{length, drop};
-ghost use Rattle.scope.specs.Text.{text};
-ghost use Rattle.lines.specs.Keys.{valueAt, isKeyLine};
-ghost use Rattle.draft_lines.specs.Lines.{lined, decimalText, sectionLine, nopLines, spaceLine, labelLine, groupLines};
-ghost use Rattle.lists.specs.Written.{Written};
-
-// Appends bytes.
-pub fn append(out: &mut [u8], at: u64, s: &[u8]) -> u64
-    requires { ⌜ at + length (now s) < 18446744073709551616 ⌝ }
-    ensures { λ r. ⌜ Written (now (out .entry)) at (now (s .entry)) r (now (out .exit)) ⌝ }
-{
-    let end = at + s.len() as u64;
-    if end <= out.len() as u64 {
-        fields::write_bytes(out, at as usize, s);
-    }
-    end
-}
-
-// Appends bytes and an LF.
-pub fn append_line(out: &mut [u8], at: u64, s: &[u8]) -> u64
-    requires { ⌜ at + length (now s) + 1 < 18446744073709551616 ⌝ }
-    ensures { λ r. ⌜ Written (now (out .entry)) at (lined (now (s .entry))) r (now (out .exit)) ⌝ }
-{
-    let a = append(out, at, s);
-    append(out, a, b"\n")
-}
+ghost use lib.ListN.{length};
+ghost use Rattle.base_scope.specs.Text.{text};
+ghost use Rattle.base_scope.specs.Codes.{LINES};
+ghost use Rattle.base_text.specs.Lines.{lined};
+ghost use Rattle.blocks_lines.specs.Keys.{KEYS, valueAt, isKeyLine};
+ghost use Rattle.draft_lines.specs.Lines.{sectionLine, nopLines, spaceLine, labelLine, groupLines};
+ghost use Rattle.base_lists.specs.Written.{Written};
 
 // Appends a line `nop`.
 fn append_nop(out: &mut [u8], at: u64) -> u64
     requires { ⌜ at + 4 < 18446744073709551616 ⌝ }
     ensures { λ r. ⌜ Written (now (out .entry)) at (lined (text "nop")) r (now (out .exit)) ⌝ }
 {
-    append(out, at, b"nop\n")
+    base_text::append(out, at, b"nop\n")
 }
 
 // Appends n lines `nop`; their length is computed, so that a great many cost nothing where they do not fit.
@@ -56,52 +37,26 @@ pub fn append_nops(out: &mut [u8], at: u64, n: u64) -> u64
     here
 }
 
-// Puts the decimal digits of a number at the end of ten bytes, and answers where they start.
-fn put_digits(d: &mut [u8], n: u64) -> usize
-    requires { ⌜ (length (now d) ≡ 10) × (n < 10000000000) ⌝ }
-    ensures { λ r. ⌜ (r ≤ 9) × (drop r (now (d .exit)) ≡ decimalText n) ⌝ }
-{
-    let mut m = n;
-    let mut i: usize = 9;
-    while m >= 10 {
-        d[i] = (48 + m % 10) as u8;
-        m = m / 10;
-        i -= 1;
-    }
-    d[i] = (48 + m) as u8;
-    i
-}
-
-// Appends the decimal digits of a number.
-pub fn append_decimal(out: &mut [u8], at: u64, n: u64) -> u64
-    requires { ⌜ (at + 10 < 18446744073709551616) × (n < 10000000000) ⌝ }
-    ensures { λ r. ⌜ Written (now (out .entry)) at (decimalText n) r (now (out .exit)) ⌝ }
-{
-    let mut d: [u8; 10] = [48; 10];
-    let i = put_digits(&mut d, n);
-    append(out, at, &d[i..])
-}
-
 // Appends `.space n`.
 pub fn append_space(out: &mut [u8], at: u64, n: u64) -> u64
     requires { ⌜ (at + 18 < 18446744073709551616) × (n < 10000000000) ⌝ }
     ensures { λ r. ⌜ Written (now (out .entry)) at (spaceLine n) r (now (out .exit)) ⌝ }
 {
-    let a = append(out, at, b".space ");
-    let b = append_decimal(out, a, n);
-    append(out, b, b"\n")
+    let a = base_text::append(out, at, b".space ");
+    let b = base_text::append_decimal(out, a, n);
+    base_text::append(out, b, b"\n")
 }
 
 // Appends `.section NAME` for a section code.
 pub fn append_section(out: &mut [u8], at: u64, code: u32) -> u64
-    requires { ⌜ (at + 17 < 18446744073709551616) × (1 ≤ code) × (code ≤ 4) ⌝ }
+    requires { ⌜ (at + 17 < 18446744073709551616) × (1 ≤ code) × (code ≤ LINES) ⌝ }
     ensures { λ r. ⌜ Written (now (out .entry)) at (sectionLine code) r (now (out .exit)) ⌝ }
 {
     match code {
-        1 => append(out, at, b".section .text\n"),
-        2 => append(out, at, b".section .data\n"),
-        3 => append(out, at, b".section .rodata\n"),
-        _ => append(out, at, b".section .bss\n"),
+        base_scope::TEXT => base_text::append(out, at, b".section .text\n"),
+        base_scope::DATA => base_text::append(out, at, b".section .data\n"),
+        base_scope::RODATA => base_text::append(out, at, b".section .rodata\n"),
+        _ => base_text::append(out, at, b".section .bss\n"),
     }
 }
 
@@ -110,29 +65,29 @@ pub fn append_label(out: &mut [u8], at: u64, label: &[u8], suffix: &[u8]) -> u64
     requires { ⌜ at + length (now label) + length (now suffix) + 8 < 18446744073709551616 ⌝ }
     ensures { λ r. ⌜ Written (now (out .entry)) at (labelLine (now (label .entry)) (now (suffix .entry))) r (now (out .exit)) ⌝ }
 {
-    let a = append(out, at, b"glabel ");
-    let b = append(out, a, label);
-    append_line(out, b, suffix)
+    let a = base_text::append(out, at, b"glabel ");
+    let b = base_text::append(out, a, label);
+    base_text::append_line(out, b, suffix)
 }
 
 // Appends the value of the line of key k at `from`, as a line.
 fn append_value(out: &mut [u8], at: u64, file: &[u8], k: u32, from: usize) -> u64
-    requires { ⌜ (at + length (now file) < 18446744073709551616 + from) × (k < 11) × (isKeyLine (now file) k from ≡ true) ⌝ }
+    requires { ⌜ (at + length (now file) < 18446744073709551616 + from) × (k < KEYS) × (isKeyLine (now file) k from ≡ true) ⌝ }
     ensures { λ r. ⌜ Written (now (out .entry)) at (lined (valueAt (now (file .entry)) k from)) r (now (out .exit)) ⌝ }
 {
-    append_line(out, at, lines::value_at(file, k, from))
+    base_text::append_line(out, at, blocks_lines::value_at(file, k, from))
 }
 
 // Appends the values of the lines of key k that stand at `from` of a block file, each as a line.
 pub fn append_group(out: &mut [u8], at: u64, file: &[u8], k: u32, from: usize) -> u64
-    requires { ⌜ (at + length (now file) < 18446744073709551616) × (k < 11) × (from ≤ length (now file)) ⌝ }
+    requires { ⌜ (at + length (now file) < 18446744073709551616) × (k < KEYS) × (from ≤ length (now file)) ⌝ }
     ensures { λ r. ⌜ Written (now (out .entry)) at (groupLines (now (file .entry)) k from) r (now (out .exit)) ⌝ }
 {
     let mut end = at;
     let mut i = from;
-    while lines::is_key_line(file, k, i) {
+    while blocks_lines::is_key_line(file, k, i) {
         end = append_value(out, end, file, k, i);
-        i = lines::line_end(file, i) + 1;
+        i = blocks_lines::line_end(file, i) + 1;
     }
     end
 }

@@ -9,22 +9,22 @@ use native.Mathlib.Omega.{arith}
 use lib.ListN.{length}
 use lib.Dec.{eqb, ltb}
 use borrow.Author.Tests.{lt-ltb, le-ltb, ne-eqb, ltb-true, ltb-false}
-use Rattle.lists.specs.Ranges.{first, select}
-use Rattle.lists.specs.Records.{flat}
-use Rattle.lists.specs.Windows.{spliced}
-use Rattle.lists.proofs.Ranges.{by-test, by-lt, first-here, first-next, first-end, first-is, first-high, first-unique, first-none, none-first, first-more, select-zero, select-yes, select-all-length}
-use Rattle.lists.proofs.Records.{flat-append, flat-none, flat-one, length-flat}
-use Rattle.lists.proofs.Windows.{length-spliced, spliced-nil, spliced-then}
-use Rattle.fields.specs.declared.ByteOrder.{ByteOrder}
-use Rattle.fields.specs.declared.ByteOrder.the-variants.{Big}
-use Rattle.fields.specs.Numbers.{encoded}
-use Rattle.fields.proofs.Numbers.{length-encoded}
-use Rattle.block_values.specs.BlockValues.{dummyCount, dummyWord, jumpTable}
-use Rattle.dummies.specs.declared.Spot.{Spot}
-use Rattle.dummies.specs.declared.Spot.the-variants.{At, Lost}
-use Rattle.dummies.specs.Spots.{pickSpot, spot}
-use Rattle.moves.specs.Moves.{firstOfMany, itemPlace, itemFault, lastFrom}
-use Rattle.moves.proofs.Moves.{length-dummy, length-table, place-dummy, place-table, fault-dummy, fault-table, item-fits, last-from-zero, last-from-next}
+use Rattle.base_lists.specs.Ranges.{first, select}
+use Rattle.base_lists.specs.Records.{flat}
+use Rattle.base_lists.specs.Windows.{spliced}
+use Rattle.base_lists.proofs.Ranges.{by-test, by-lt, first-here, first-next, first-end, first-is, first-high, first-unique, first-none, none-first, first-more, select-zero, select-yes, select-all-length}
+use Rattle.base_lists.proofs.Records.{flat-append, flat-none, flat-one, length-flat}
+use Rattle.base_lists.proofs.Windows.{length-spliced, spliced-nil, spliced-then}
+use Rattle.base_fields.specs.declared.ByteOrder.{ByteOrder}
+use Rattle.base_fields.specs.declared.ByteOrder.the-variants.{Big}
+use Rattle.base_fields.specs.Numbers.{encoded}
+use Rattle.base_fields.proofs.Numbers.{length-encoded}
+use Rattle.blocks_items.specs.Items.{dummyCount, dummyWord, jumpTable}
+use Rattle.late_dummies.specs.declared.Spot.{Spot}
+use Rattle.late_dummies.specs.declared.Spot.the-variants.{At, Lost}
+use Rattle.late_dummies.specs.Spots.{pickSpot, spot}
+use Rattle.late_moves.specs.Moves.{firstOfMany, itemPlace, itemFault, lastFrom}
+use Rattle.late_moves.proofs.Moves.{length-dummy, length-table, place-dummy, place-table, fault-dummy, fault-table, item-fits, last-from-zero, last-from-next}
 use Rattle.late_blocks.specs.Items.{tableSpot, placeFrom, faultFrom, soundItems, placeWords, itemsSpot}
 
 -- ---- what an answer tells
@@ -101,7 +101,7 @@ module _ (o : ByteOrder) (B R : List ℕ) (i last : ℕ) where
   spot-go n e = let h : ltb n n ≡ false = le-ltb n n (omega arith) in rw (e, h)
 
 -- k dummies were placed, whose words stand from `at` on, and the next search begins at `here`
-pub record Placing (o : ByteOrder) (B R : List ℕ) (i last count : ℕ) (before : List ℕ) (at k here : ℕ) (late : List ℕ) : Type 0 where
+pub record PlacingDummies (o : ByteOrder) (B R : List ℕ) (i last count : ℕ) (before : List ℕ) (at k here : ℕ) (late : List ℕ) : Type 0 where
   pub few : k ≤ count
   pub from : here ≡ lastFrom o B R i last k
   pub inside : here ≤ length R
@@ -110,7 +110,7 @@ pub record Placing (o : ByteOrder) (B R : List ℕ) (i last count : ℕ) (before
   pub words : late ≡ spliced before at (firstWords o B R i last k)
 
 pub placing-none : (o : ByteOrder) (B R : List ℕ) (i last count : ℕ) (late : List ℕ) (at : ℕ) → last ≤ length R
-    → Placing o B R i last count late at 0 last late
+    → PlacingDummies o B R i last count late at 0 last late
 unfolding soundItems
 placing-none o B R i last count late at h = record {
   few = omega arith;
@@ -122,7 +122,7 @@ placing-none o B R i last count late at h = record {
 }
 
 module _ (o : ByteOrder) (B R : List ℕ) (i last count : ℕ) (before : List ℕ) (at k here : ℕ) (late : List ℕ)
-    (w : Placing o B R i last count before at k here late) where
+    (w : PlacingDummies o B R i last count before at k here late) where
   fault-here : faultFrom o B R i last k ≡ itemFault o B R i here k
   unfolding faultFrom
   fault-here = rw (w .from)
@@ -152,7 +152,7 @@ module _ (o : ByteOrder) (B R : List ℕ) (i last count : ℕ) (before : List �
           omega (arith, item-fits o B R i here k f (w .inside), length-dummy B i k l)
 
       pub placing-next : at + 4 * count ≤ length before
-          → Placing o B R i last count before at (k + 1) (p + 4) (spliced late (at + 4 * k) (encoded Big 4 p))
+          → PlacingDummies o B R i last count before at (k + 1) (p + 4) (spliced late (at + 4 * k) (encoded Big 4 p))
       placing-next room =
           let l : k < dummyCount B i = omega arith in
           let n : 4 * k ≡ length (firstWords o B R i last k) = sym (length-words o B R i last k) in

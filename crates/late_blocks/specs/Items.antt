@@ -1,18 +1,18 @@
--- The items of one block, as functions of the last place before it.
+-- Of the code, not of document 01: the items of one block, as functions of the last place before it, and what the code answers of them.
 use Prim.Native.Nat.{ℕ, _+_}
 use mathlib.Core.Bool.{Bool, true, _&&_, _||_}
 use mathlib.Core.List.{List}
 use lib.ListN.{length}
 use lib.Dec.{eqb, ltb}
-use Rattle.lists.specs.Ranges.{first, select}
-use Rattle.lists.specs.Records.{flat}
-use Rattle.fields.specs.declared.ByteOrder.{ByteOrder}
-use Rattle.fields.specs.declared.ByteOrder.the-variants.{Big}
-use Rattle.fields.specs.Numbers.{encoded}
-use Rattle.dummies.specs.declared.Spot.{Spot}
-use Rattle.dummies.specs.declared.Spot.the-variants.{At, Lost}
-use Rattle.dummies.specs.Spots.{pickSpot}
-use Rattle.moves.specs.Moves.{itemPlace, itemFault, lastFrom}
+use Rattle.base_lists.specs.Ranges.{first, select}
+use Rattle.base_lists.specs.Records.{flat}
+use Rattle.base_fields.specs.declared.ByteOrder.{ByteOrder}
+use Rattle.base_fields.specs.declared.ByteOrder.the-variants.{Big}
+use Rattle.base_fields.specs.Numbers.{encoded}
+use Rattle.late_dummies.specs.declared.Spot.{Spot}
+use Rattle.late_dummies.specs.declared.Spot.the-variants.{At, Lost}
+use Rattle.late_dummies.specs.Spots.{pickSpot}
+use Rattle.late_moves.specs.Moves.{itemPlace, itemFault, lastFrom}
 
 module _ (R : List ℕ) where
   -- the end of a jump table of n bytes behind so many dummies, or refusal 14

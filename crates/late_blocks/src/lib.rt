@@ -5,22 +5,23 @@ ghost use mathlib.Core.Bool.{_&&_};
 ghost use Prim.Native.Nat.{_+_, _*_, _≤_, _<_};
 ghost use lib.ListN.{length};
 ghost use lib.Dec.{eqb, ltb};
-ghost use Rattle.lists.specs.Windows.{spliced};
-ghost use Rattle.blocks.specs.Blocks.{blockCount};
-ghost use Rattle.blocks.specs.Table.{Parsed};
-ghost use Rattle.block_values.specs.BlockValues.{dummyCount, jumpTable};
-ghost use Rattle.dummies.specs.Spots.{pickSpot};
-ghost use Rattle.dummies.specs.declared.Spot.the-variants.{At, Lost};
-ghost use Rattle.moves.specs.Moves.{itemPlace, itemFault};
+ghost use Rattle.base_lists.specs.Windows.{spliced};
+ghost use Rattle.base_scope.specs.Limits.{FILE_LIMIT};
+ghost use Rattle.blocks_file.specs.Blocks.{blockCount};
+ghost use Rattle.blocks_file.specs.Table.{Parsed};
+ghost use Rattle.blocks_items.specs.Items.{dummyCount, jumpTable};
+ghost use Rattle.late_dummies.specs.Spots.{pickSpot};
+ghost use Rattle.late_dummies.specs.declared.Spot.the-variants.{At, Lost};
+ghost use Rattle.late_moves.specs.Moves.{itemPlace, itemFault};
 ghost use Rattle.late_blocks.specs.Items.{tableSpot, placeWords, itemsSpot};
-use dummies::Spot;
-use fields::ByteOrder;
+use base_fields::ByteOrder;
+use late_dummies::Spot;
 
 // Whether dummy k of so many is the first of two or more.
 fn is_first_of_many(k: usize, count: usize) -> bool
     ensures { λ r. ⌜ r ≡ (eqb k 0 && ltb 1 count) ⌝ }
 {
-    scope::both(k == 0, 1 < count)
+    base_scope::both(k == 0, 1 < count)
 }
 
 // The place of dummy k of block i, where `last` is the last place before it.
@@ -37,9 +38,9 @@ fn dummy_spot(
     requires { ⌜ Parsed (now file) (now table) × (i < blockCount (now file)) × (count ≡ dummyCount (now file) i) × (k < count) × (last ≤ length (now rodata)) ⌝ }
     ensures { λ r. ⌜ r ≡ pickSpot (itemFault order (now (file .entry)) (now (rodata .entry)) i last k) Lost (At (itemPlace order (now (file .entry)) (now (rodata .entry)) i last k)) ⌝ }
 {
-    let word = block_values::dummy_word(file, table, i, k);
+    let word = blocks_items::dummy_word(file, table, i, k);
     let many = is_first_of_many(k, count);
-    dummies::place_dummy(order, rodata, many, last, word)
+    late_dummies::place_dummy(order, rodata, many, last, word)
 }
 
 // The places of block i's dummies go into the table from `at` on, until one is lost; `last` is the last place before the block.
@@ -54,7 +55,7 @@ fn place_dummies(
     late: &mut [u8],
     at: usize,
 ) -> Spot
-    requires { ⌜ Parsed (now file) (now table) × (i < blockCount (now file)) × (count ≡ dummyCount (now file) i) × (last ≤ length (now rodata)) × (length (now rodata) ≤ 1048576)
+    requires { ⌜ Parsed (now file) (now table) × (i < blockCount (now file)) × (count ≡ dummyCount (now file) i) × (last ≤ length (now rodata)) × (length (now rodata) ≤ FILE_LIMIT)
         × (at + 4 * count ≤ length (now late)) ⌝ }
     ensures { λ r. ⌜ (r ≡ itemsSpot order (now (file .entry)) (now (rodata .entry)) i last count)
         × (now (late .exit) ≡ spliced (now (late .entry)) at (placeWords order (now (file .entry)) (now (rodata .entry)) i last count)) ⌝ }
@@ -64,7 +65,7 @@ fn place_dummies(
     while k < count {
         match dummy_spot(order, rodata, file, table, i, count, k, here) {
             Spot::At(p) => {
-                fields::write32(ByteOrder::Big, late, at + 4 * k, p as u32);
+                base_fields::write32(ByteOrder::Big, late, at + 4 * k, p as u32);
                 here = p + 4;
                 k += 1;
             }
@@ -104,7 +105,7 @@ pub fn place_block(
     late: &mut [u8],
     at: usize,
 ) -> Spot
-    requires { ⌜ Parsed (now file) (now table) × (i < blockCount (now file)) × (count ≡ dummyCount (now file) i) × (last ≤ length (now rodata)) × (length (now rodata) ≤ 1048576)
+    requires { ⌜ Parsed (now file) (now table) × (i < blockCount (now file)) × (count ≡ dummyCount (now file) i) × (last ≤ length (now rodata)) × (length (now rodata) ≤ FILE_LIMIT)
         × (at + 4 * count ≤ length (now late)) × (bytes ≡ jumpTable (now file) i) ⌝ }
     ensures { λ r. ⌜ (r ≡ itemsSpot order (now (file .entry)) (now (rodata .entry)) i last (count + 1))
         × (now (late .exit) ≡ spliced (now (late .entry)) at (placeWords order (now (file .entry)) (now (rodata .entry)) i last count)) ⌝ }

@@ -1,61 +1,66 @@
--- The laws of the late length: the turns of the loop that sums it, its bound, and that the late step runs exactly where it is not zero. Assumes nothing.
+-- The laws of the late length: the bytes of one block, and that there is a late step exactly where the length is not zero. Assumes nothing.
 use Prim.Native.Nat.{ℕ, _+_, _*_, _≤_, _<_}
 use mathlib.Core.Path.{_≡_, sym, _∙_}
 use mathlib.Core.Bool.{true, false}
 use mathlib.Core.List.{List}
 use native.Mathlib.Nat.{zero-mul}
 use native.Mathlib.Omega.{arith}
-use lib.ListN.{length}
 use lib.Dec.{ltb}
 use borrow.Author.Tests.{lt-ltb, le-ltb, ltb-true, ltb-false}
-use Rattle.lists.specs.Ranges.{first, sum}
-use Rattle.lists.proofs.Ranges.{by-test, both, by-lt, and-parts, first-is, none-first, first-high, sum-at, sum-same, sum-const}
-use Rattle.fields.specs.declared.ByteOrder.{ByteOrder}
-use Rattle.blocks.specs.Blocks.{blockCount}
-use Rattle.places.specs.Spans.{live}
-use Rattle.block_values.specs.BlockValues.{dummyCount, jumpTable, lateBytes, lateLength}
-use Rattle.late_length.specs.Late.{isLate, lateRuns}
+use Rattle.base_lists.specs.Ranges.{first, sum}
+use Rattle.base_lists.proofs.Ranges.{by-test, both, by-lt, and-parts, first-is, none-first, first-high, sum-at, sum-same, sum-const}
+use Rattle.blocks_file.specs.Blocks.{blockCount}
+use Rattle.blocks_places.specs.Places.{Place, live}
+use Rattle.blocks_items.specs.Items.{dummyCount, jumpTable, lateBytes, lateLength}
+use Rattle.late_length.specs.Late.{isLate, hasLateStep}
 
-module _ (o : ByteOrder) (C B : List ℕ) where
-  pub late-on : (i : ℕ) → live o C B i ≡ true → lateBytes o C B i ≡ 4 * dummyCount B i + jumpTable B i
+module _ (P : List Place) (B : List ℕ) where
+  pub bytes-live : (i : ℕ) → live P B i ≡ true → lateBytes P B i ≡ 4 * dummyCount B i + jumpTable B i
   unfolding lateBytes
-  late-on i t = rw t
+  bytes-live i t = rw t
 
-  pub late-off : (i : ℕ) → live o C B i ≡ false → lateBytes o C B i ≡ 0
+  pub bytes-off : (i : ℕ) → live P B i ≡ false → lateBytes P B i ≡ 0
   unfolding lateBytes
-  late-off i f = rw f
+  bytes-off i f = rw f
 
-  late-some : (i : ℕ) → isLate o C B i ≡ true → 0 < lateBytes o C B i
+  late-some : (i : ℕ) → isLate P B i ≡ true → 0 < lateBytes P B i
   unfolding isLate
   late-some i t =
-      let p = and-parts (live o C B i) _ t in
-      rw (late-on i (p .0)) (by-test (ltb 0 (dummyCount B i))
+      let p = and-parts (live P B i) _ t in
+      rw (bytes-live i (p .0)) (by-test (ltb 0 (dummyCount B i))
       (λ y. omega (arith, ltb-true 0 (dummyCount B i) y))
       (λ n. let q : ltb 0 (jumpTable B i) ≡ true = rw n at (p .1) in omega (arith, ltb-true 0 (jumpTable B i) q)))
 
-  late-none : (i : ℕ) → isLate o C B i ≡ false → lateBytes o C B i ≡ 0
+  late-none : (i : ℕ) → isLate P B i ≡ false → lateBytes P B i ≡ 0
   unfolding isLate
-  late-none i f = by-test (live o C B i)
-      (λ t. rw (late-on i t) (by-test (ltb 0 (dummyCount B i))
+  late-none i f = by-test (live P B i)
+      (λ t. rw (bytes-live i t) (by-test (ltb 0 (dummyCount B i))
       (λ y. both (rw (t, y)) f)
       (λ n.
       let q : ltb 0 (jumpTable B i) ≡ false = rw (t, n) at f in
       let a : dummyCount B i ≤ 0 = ltb-false _ _ n in
       let b : jumpTable B i ≤ 0 = ltb-false _ _ q in
       omega arith)))
-      (late-off i)
+      (bytes-off i)
 
-  -- the late step runs exactly where the late length is not zero
-  pub runs-length : lateRuns o C B ≡ ltb 0 (lateLength o C B)
-  unfolding lateRuns lateLength
-  runs-length = by-lt (first (isLate o C B) 0 (blockCount B)) (blockCount B)
+  -- there is a late step exactly where the late length is not zero
+  pub step-length : hasLateStep P B ≡ ltb 0 (lateLength P B)
+  unfolding hasLateStep lateLength
+  step-length = by-lt (first (isLate P B) 0 (blockCount B)) (blockCount B)
       (λ h.
-      let i = first (isLate o C B) 0 (blockCount B) in
-      let s : 0 < lateBytes o C B i = late-some i (first-is (isLate o C B) 0 (blockCount B) (omega arith) .here h) in
-      lt-ltb _ _ h ∙ sym (lt-ltb 0 (sum (lateBytes o C B) (blockCount B)) (omega (arith, sum-at (lateBytes o C B) i (blockCount B) h))))
+      let i = first (isLate P B) 0 (blockCount B) in
+      let s : 0 < lateBytes P B i = late-some i (first-is (isLate P B) 0 (blockCount B) (omega arith) .here h) in
+      lt-ltb _ _ h ∙ sym (lt-ltb 0 (sum (lateBytes P B) (blockCount B)) (omega (arith, sum-at (lateBytes P B) i (blockCount B) h))))
       (λ h.
-      let e : first (isLate o C B) 0 (blockCount B) ≡ blockCount B = omega (arith, first-high (isLate o C B) 0 (blockCount B) (omega arith)) in
-      let z : sum (lateBytes o C B) (blockCount B) ≡ 0 =
-      sum-same (lateBytes o C B) (λ i. 0) (blockCount B) (λ i g. late-none i (none-first (isLate o C B) 0 (blockCount B) i e (omega arith) g))
+      let e : first (isLate P B) 0 (blockCount B) ≡ blockCount B = omega (arith, first-high (isLate P B) 0 (blockCount B) (omega arith)) in
+      let z : sum (lateBytes P B) (blockCount B) ≡ 0 =
+      sum-same (lateBytes P B) (λ i. 0) (blockCount B) (λ i g. late-none i (none-first (isLate P B) 0 (blockCount B) i e (omega arith) g))
       ∙ sum-const 0 (blockCount B) ∙ zero-mul (blockCount B) in
-      le-ltb _ _ h ∙ sym (le-ltb 0 (sum (lateBytes o C B) (blockCount B)) (omega arith)))
+      le-ltb _ _ h ∙ sym (le-ltb 0 (sum (lateBytes P B) (blockCount B)) (omega arith)))
+
+  -- where there is none, no block has late bytes
+  pub step-none : hasLateStep P B ≡ false → (i : ℕ) → i < blockCount B → lateBytes P B i ≡ 0
+  unfolding lateLength
+  step-none f i h =
+      let z : lateLength P B ≤ 0 = ltb-false 0 (lateLength P B) (sym step-length ∙ f) in
+      omega (arith, sum-at (lateBytes P B) i (blockCount B) h)

@@ -1,67 +1,86 @@
--- What is read in the table of the late step: field 0 of a row is a late offset, field 1 a number of dummies, field 2 a last place. All three ascend, so a row
--- is found by halving.
+-- Of the code, not of document 01: what is read in the table of the late step. The fields of a row are a late offset, a number of dummies and a last place. All three
+-- ascend, so a row is found by binary search.
 use Prim.Native.Nat.{ℕ, _+_, _-_, _*_, _/_, _%_, _≤_, _<_}
 use mathlib.Core.Bool.{Bool, true, false, cond, _&&_}
 use mathlib.Core.List.{List}
 use lib.ListN.{length}
 use lib.Dec.{leb, ltb, eqb}
-use Rattle.lists.specs.Ranges.{first}
-use Rattle.fields.specs.declared.ByteOrder.the-variants.{Big}
-use Rattle.fields.specs.Numbers.{number}
-use Rattle.late.specs.Table.{WORDS}
-use Rattle.late_lookups.specs.declared.Place.{Place}
-use Rattle.late_lookups.specs.declared.Place.the-variants.{Moved, Unmoved}
+use Rattle.base_lists.specs.Ranges.{first}
+use Rattle.base_fields.specs.declared.ByteOrder.the-variants.{Big}
+use Rattle.base_fields.specs.Numbers.{number}
+use Rattle.base_scope.specs.Limits.{BLOCK_LIMIT, LATE_ROW, LATE_WORDS}
+use Rattle.late_lookups.specs.declared.LatePlace.{LatePlace}
+use Rattle.late_lookups.specs.declared.LatePlace.the-variants.{Moved, Unmoved}
 
-abbrev pub pickPlace : Bool → Place → Place → Place
-pickPlace true a b = a
-pickPlace false a b = b
+abbrev pub pickLatePlace : Bool → LatePlace → LatePlace → LatePlace
+pickLatePlace true a b = a
+pickLatePlace false a b = b
+
+-- the fields of a row
+abbrev pub SOURCE : ℕ
+SOURCE = 0
+
+abbrev pub DUMMIES : ℕ
+DUMMIES = 1
+
+abbrev pub LAST : ℕ
+LAST = 2
 
 module _ (late : List ℕ) where
-  unfoldable pub field : ℕ → ℕ → ℕ
-  field f i = number Big 4 late (12 * i + 4 * f)
+  -- field f of row i
+  unfoldable pub lateField : ℕ → ℕ → ℕ
+  lateField f i = number Big 4 late (LATE_ROW * i + 4 * f)
 
   -- the place of dummy m of all
-  unfoldable pub word : ℕ → ℕ
-  word m = number Big 4 late (WORDS + 4 * m)
+  unfoldable pub lateWord : ℕ → ℕ
+  lateWord m = number Big 4 late (LATE_WORDS + 4 * m)
 
   -- how many dummies block i has, and how many bytes its jump table
   unfoldable pub rowDummies : ℕ → ℕ
-  rowDummies i = field 1 (i + 1) - field 1 i
+  rowDummies i = lateField DUMMIES (i + 1) - lateField DUMMIES i
 
   unfoldable pub rowBytes : ℕ → ℕ
-  rowBytes i = field 0 (i + 1) - field 0 i - 4 * rowDummies i
+  rowBytes i = lateField SOURCE (i + 1) - lateField SOURCE i - 4 * rowDummies i
 
   -- field f of the row behind block i is past x
   unfoldable pub isPast : ℕ → ℕ → ℕ → Bool
-  isPast f x i = ltb x (field f (i + 1))
+  isPast f x i = ltb x (lateField f (i + 1))
 
   -- of n blocks, the first whose next row is past x in field f
-  unfoldable pub holder : ℕ → ℕ → ℕ → ℕ
-  holder f n x = first (isPast f x) 0 n
+  unfoldable pub rowPast : ℕ → ℕ → ℕ → ℕ
+  rowPast f n x = first (isPast f x) 0 n
 
   -- the place of offset x in block i: that of its dummy, or so far before the end of its jump table as the offset is before the end of its part
-  unfoldable pub placeIn : ℕ → ℕ → ℕ
-  placeIn i x = cond (ltb ((x - field 0 i) / 4) (rowDummies i)) (word (field 1 i + (x - field 0 i) / 4)) (field 2 (i + 1) - (field 0 (i + 1) - x))
+  unfoldable pub placeInRow : ℕ → ℕ → ℕ
+  placeInRow i x =
+      cond (ltb ((x - lateField SOURCE i) / 4) (rowDummies i))
+      (lateWord (lateField DUMMIES i + (x - lateField SOURCE i) / 4))
+      (lateField LAST (i + 1) - (lateField SOURCE (i + 1) - x))
 
   -- a word starts at offset x of block i
   unfoldable pub isStart : ℕ → ℕ → Bool
-  isStart i x = leb (field 0 i) x && eqb ((x - field 0 i) % 4) 0
+  isStart i x = leb (lateField SOURCE i) x && eqb ((x - lateField SOURCE i) % 4) 0
 
-  unfoldable pub offsetAt : ℕ → ℕ → Place
-  offsetAt n x = pickPlace (ltb (holder 0 n x) n && isStart (holder 0 n x) x) (Moved (placeIn (holder 0 n x) x)) Unmoved
+  unfoldable pub offsetAt : ℕ → ℕ → LatePlace
+  offsetAt n x = pickLatePlace (ltb (rowPast SOURCE n x) n && isStart (rowPast SOURCE n x) x) (Moved (placeInRow (rowPast SOURCE n x) x)) Unmoved
 
   -- a word of block i's jump table, which ends at the next row's last place, is at x
   unfoldable pub isTableWord : ℕ → ℕ → Bool
-  isTableWord i x = leb (field 2 (i + 1)) (x + rowBytes i) && eqb ((x + rowBytes i - field 2 (i + 1)) % 4) 0
+  isTableWord i x = leb (lateField LAST (i + 1)) (x + rowBytes i) && eqb ((x + rowBytes i - lateField LAST (i + 1)) % 4) 0
 
   unfoldable pub jumpAt : ℕ → ℕ → Bool
-  jumpAt n x = ltb (holder 2 n x) n && isTableWord (holder 2 n x) x
+  jumpAt n x = ltb (rowPast LAST n x) n && isTableWord (rowPast LAST n x) x
 
--- a table of n blocks: its fields ascend, its words are there, and each row's numbers fit
-pub record Sound (late : List ℕ) (n : ℕ) : Type 0 where
-  pub few : n ≤ 1024
-  pub long : 12 * n + 12 ≤ length late
-  pub rises : (f i : ℕ) → f < 3 → i < n → field late f i ≤ field late f (i + 1)
-  pub words : WORDS + 4 * field late 1 n ≤ length late
-  pub parts : (i : ℕ) → i < n → field late 0 i + 4 * rowDummies late i ≤ field late 0 (i + 1)
-  pub tables : (i : ℕ) → i < n → rowBytes late i ≤ field late 2 (i + 1)
+-- the row of block i and the one behind it: the fields ascend, the words are there, and the numbers fit
+pub record AtRow (late : List ℕ) (i : ℕ) : Type 0 where
+  pub few : i < BLOCK_LIMIT
+  pub long : LATE_ROW * (i + 1) + LATE_ROW ≤ length late
+  pub rises : (f : ℕ) → f < 3 → lateField late f i ≤ lateField late f (i + 1)
+  pub words : LATE_WORDS + 4 * lateField late DUMMIES (i + 1) ≤ length late
+  pub parts : lateField late SOURCE i + 4 * rowDummies late i ≤ lateField late SOURCE (i + 1)
+  pub tables : rowBytes late i ≤ lateField late LAST (i + 1)
+
+-- a table of n blocks
+pub record LateRows (late : List ℕ) (n : ℕ) : Type 0 where
+  pub few : n ≤ BLOCK_LIMIT
+  pub rows : (i : ℕ) → i < n → AtRow late i

@@ -1,26 +1,27 @@
--- The laws of a block's words: they ascend, so the first that ends past x is found by halving; and whether a dummy moved on, in each of its ways. Assumes nothing.
+-- The laws of a block's words: they ascend, so the first that ends past x is found by binary search; and whether a dummy moved on, in each of its ways. Assumes nothing.
 use Prim.Native.Nat.{ℕ, _+_, _-_, _*_, _≤_, _<_}
 use mathlib.Core.Path.{_≡_, _∙_}
 use mathlib.Core.Bool.{Bool, true, false, _&&_}
 use mathlib.Core.List.{List}
 use native.Mathlib.Omega.{arith}
+use lib.ListN.{length}
 use lib.Dec.{eqb, ltb}
 use borrow.Author.Tests.{lt-ltb, le-ltb, le-leb, lt-leb, ltb-true, eq-eqb, ne-eqb}
-use Rattle.lists.specs.Ranges.{first}
-use Rattle.lists.proofs.Ranges.{by-test, first-is, first-high}
-use Rattle.lists.proofs.Halves.{GoesOn}
-use Rattle.fields.specs.declared.ByteOrder.{ByteOrder}
-use Rattle.fields.specs.declared.ByteOrder.the-variants.{Big}
-use Rattle.fields.specs.Numbers.{number}
-use Rattle.block_values.specs.BlockValues.{dummyWord}
-use Rattle.dummies.specs.Dummies.{wordAt}
-use Rattle.late.specs.Table.{WORDS}
-use Rattle.late_lookups.specs.Fields.{field, rowDummies}
+use Rattle.base_lists.specs.Ranges.{first}
+use Rattle.base_lists.proofs.Ranges.{by-test, first-is, first-high}
+use Rattle.base_lists.proofs.Halves.{GoesOn}
+use Rattle.base_fields.specs.declared.ByteOrder.{ByteOrder}
+use Rattle.base_fields.specs.declared.ByteOrder.the-variants.{Big}
+use Rattle.base_fields.specs.Numbers.{number}
+use Rattle.blocks_items.specs.Items.{dummyWord}
+use Rattle.late_dummies.specs.Dummies.{wordAt}
+use Rattle.base_scope.specs.Limits.{LATE_WORDS}
+use Rattle.late_lookups.specs.Fields.{lateField, rowDummies, rowPast}
 use Rattle.late_lookups.proofs.Fields.{word-read}
 use Rattle.late_runs.specs.declared.Run.the-variants.{Kept, Late, Zeros}
-use Rattle.late_runs.specs.Words.{dummyPlace, wordPast, dummyOver, Rising, movedOn, gapTo, wordRun, tableRun}
+use Rattle.late_runs.specs.Words.{dummyPlace, wordPast, dummyOver, Rising, movedOn, gapTo, wordRun, tableRun, rowRun, runRead}
 
-pub place-read : (late : List ℕ) (i k a r : ℕ) → a ≡ field late 1 i → r ≡ number Big 4 late (WORDS + 4 * (a + k)) → r ≡ dummyPlace late i k
+pub place-read : (late : List ℕ) (i k a r : ℕ) → a ≡ lateField late 1 i → r ≡ number Big 4 late (LATE_WORDS + 4 * (a + k)) → r ≡ dummyPlace late i k
 unfolding dummyPlace
 place-read late i k a r e q = rw (← e) (word-read late (a + k) r q)
 
@@ -46,8 +47,8 @@ module _ (late : List ℕ) (i x : ℕ) where
   over-past h = past-true _ (first-is (wordPast late i x) 0 (rowDummies late i) (omega arith) .here h)
 
   -- a word behind one that ends past x ends past x
-  pub past-on : (n count : ℕ) → Rising late n i → count ≡ rowDummies late i → GoesOn (wordPast late i x) count
-  past-on n count s e k l h u t = past-yes l (omega (arith, past-true k t, s .rises k l h (omega arith)))
+  pub past-on : (count : ℕ) → Rising late i → count ≡ rowDummies late i → GoesOn (wordPast late i x) count
+  past-on count s e k l h u t = past-yes l (omega (arith, past-true k t, s .rises k l h (omega arith)))
 
   pub over-read : (count r : ℕ) → count ≡ rowDummies late i → r ≡ first (wordPast late i x) 0 count → r ≡ dummyOver late i x
   unfolding dummyOver
@@ -90,15 +91,33 @@ module _ (shifted : Bool) (x p : ℕ) where
 -- ---- runs
 
 module _ (o : ByteOrder) (B R late : List ℕ) (i count k x : ℕ) where
-  pub run-in-word : (a p : ℕ) → a ≡ field late 0 i → p ≡ dummyPlace late i k → p ≤ x → Late (a + 4 * k + (x - p)) (p + 4 - x) ≡ wordRun o B R late i count k x
+  pub run-in-word : (a p : ℕ) → a ≡ lateField late 0 i → p ≡ dummyPlace late i k → p ≤ x → Late (a + 4 * k + (x - p)) (p + 4 - x) ≡ wordRun o B R late i count k x
   unfolding wordRun
   run-in-word a p e q h = rw (← e, ← q, le-leb p x h)
 
-  pub run-before : (a p : ℕ) (b : Bool) → a ≡ field late 2 i → p ≡ dummyPlace late i k → b ≡ movedOn o B R i count k a p → x < p
+  pub run-before : (a p : ℕ) (b : Bool) → a ≡ lateField late 2 i → p ≡ dummyPlace late i k → b ≡ movedOn o B R i count k a p → x < p
       → gapTo b x p ≡ wordRun o B R late i count k x
   unfolding wordRun
   run-before a p b e q t h = rw (← e, ← q, lt-leb p x h, t)
 
-pub run-in-table : (late : List ℕ) (i x a b : ℕ) → a ≡ field late 0 (i + 1) → b ≡ field late 2 (i + 1) → Late (a - (b - x)) (b - x) ≡ tableRun late i x
+pub run-in-table : (late : List ℕ) (i x a b : ℕ) → a ≡ lateField late 0 (i + 1) → b ≡ lateField late 2 (i + 1) → Late (a - (b - x)) (b - x) ≡ tableRun late i x
 unfolding tableRun
 run-in-table late i x a b e q = rw (e, q)
+
+-- the run of a row, and of a table, in each of its ways
+module _ (o : ByteOrder) (B R late : List ℕ) (x : ℕ) where
+  pub row-word : (i count k : ℕ) → count ≡ rowDummies late i → k ≡ dummyOver late i x → k < count → wordRun o B R late i count k x ≡ rowRun o B R late x i
+  unfolding rowRun
+  row-word i count k e q h = rw (← e, ← q, lt-ltb k count h)
+
+  pub row-table : (i count k : ℕ) → count ≡ rowDummies late i → k ≡ dummyOver late i x → count ≤ k → tableRun late i x ≡ rowRun o B R late x i
+  unfolding rowRun
+  row-table i count k e q h = rw (← e, ← q, le-ltb k count h)
+
+  pub read-none : (n : ℕ) → n ≤ rowPast late 2 n x → Kept (length R - x) ≡ runRead o B R late x n
+  unfolding runRead
+  read-none n h = rw (le-ltb (rowPast late 2 n x) n h)
+
+  pub read-row : (n i : ℕ) → i ≡ rowPast late 2 n x → i < n → rowRun o B R late x i ≡ runRead o B R late x n
+  unfolding runRead
+  read-row n i e h = rw (← e, lt-ltb i n h)

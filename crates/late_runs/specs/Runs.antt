@@ -1,14 +1,15 @@
--- The final .rodata as runs: at a position at or past the end of the last .rodata block copied, the bytes of one kind that begin there. Byte by byte a run is
--- `lateByte` (proofs/Runs.antt).
+-- Of the code, not of document 01: the final .rodata as runs. At a position at or past the end of the last .rodata block copied, the bytes of one kind that begin there.
+-- Byte by byte a run is `lateByte` of the crate late_moves (proofs/Runs.antt, `run-is`).
 use Prim.Native.Nat.{ℕ, _+_, _-_}
 use mathlib.Core.Bool.{Bool, true, false}
 use mathlib.Core.List.{List}
 use lib.ListN.{length, getD}
 use lib.Dec.{leb, ltb}
-use Rattle.lists.specs.Ranges.{first}
-use Rattle.fields.specs.declared.ByteOrder.{ByteOrder}
-use Rattle.blocks.specs.Blocks.{blockCount}
-use Rattle.moves.specs.Moves.{items, itemLength, source, lateFrom, place, isShifted}
+use Rattle.base_lists.specs.Ranges.{first}
+use Rattle.base_fields.specs.declared.ByteOrder.{ByteOrder}
+use Rattle.blocks_file.specs.Blocks.{blockCount}
+use Rattle.blocks_places.specs.Places.{Place}
+use Rattle.late_moves.specs.Moves.{items, itemLength, moveSource, lateFrom, movePlace, isShifted}
 use Rattle.late_runs.specs.declared.Run.{Run}
 use Rattle.late_runs.specs.declared.Run.the-variants.{Kept, Late, Zeros}
 
@@ -16,39 +17,39 @@ abbrev pub pickRun : Bool → Run → Run → Run
 pickRun true a b = a
 pickRun false a b = b
 
--- how many bytes a run has, and byte j of one that begins at x: C's own bytes R, A's late bytes L, or zeros
+-- how many bytes a run has, and byte j of one that begins at x: .rodata's own bytes R, A's late bytes W, or zeros
 unfoldable pub runLength : Run → ℕ
 runLength (Kept n) = n
 runLength (Late a n) = n
 runLength (Zeros n) = n
 
 unfoldable pub runByte : List ℕ → List ℕ → ℕ → Run → ℕ → ℕ
-runByte R L x (Kept n) j = getD R (x + j) 0
-runByte R L x (Late a n) j = getD L (a + j) 0
-runByte R L x (Zeros n) j = 0
+runByte R W x (Kept n) j = getD R (x + j) 0
+runByte R W x (Late a n) j = getD W (a + j) 0
+runByte R W x (Zeros n) j = 0
 
-module _ (o : ByteOrder) (C B R : List ℕ) where
+module _ (o : ByteOrder) (P : List Place) (B R : List ℕ) where
   -- the first block whose last item ends past x, and its first item that does
   unfoldable pub runBlock : ℕ → ℕ
-  runBlock x = first (λ i. ltb x (lateFrom o C B R (i + 1))) 0 (blockCount B)
+  runBlock x = first (λ i. ltb x (lateFrom o P B R (i + 1))) 0 (blockCount B)
 
   unfoldable pub runItem : ℕ → ℕ → ℕ
-  runItem x i = first (λ k. ltb x (place o C B R i k + itemLength B i k)) 0 (items o C B i)
+  runItem x i = first (λ k. ltb x (movePlace o P B R i k + itemLength B i k)) 0 (items P B i)
+
+  -- the bytes before item k of block i, from x on: kept up to its place, or up to the word before it where that becomes zero
+  unfoldable pub gapRun : ℕ → ℕ → ℕ → Run
+  gapRun x i k =
+      pickRun (isShifted o P B R i k)
+      (pickRun (leb (movePlace o P B R i k) (x + 4)) (Zeros (movePlace o P B R i k - x)) (Kept (movePlace o P B R i k - 4 - x)))
+      (Kept (movePlace o P B R i k - x))
 
   module _ (s x : ℕ) where
-    -- the bytes before item k of block i, from x on: kept up to its place, or up to the word before it where that becomes zero
-    unfoldable pub gapRun : ℕ → ℕ → Run
-    gapRun i k =
-        pickRun (isShifted o C B R i k)
-        (pickRun (leb (place o C B R i k) (x + 4)) (Zeros (place o C B R i k - x)) (Kept (place o C B R i k - 4 - x)))
-        (Kept (place o C B R i k - x))
-
     -- item k of block i, which ends past x: its bytes from x on, or those before it
     unfoldable pub itemRun : ℕ → ℕ → Run
     itemRun i k =
-        pickRun (leb (place o C B R i k) x)
-        (Late (source o C B s i k + (x - place o C B R i k)) (place o C B R i k + itemLength B i k - x))
-        (gapRun i k)
+        pickRun (leb (movePlace o P B R i k) x)
+        (Late (moveSource P B s i k + (x - movePlace o P B R i k)) (movePlace o P B R i k + itemLength B i k - x))
+        (gapRun x i k)
 
     -- behind all items the rest is kept
     unfoldable pub runAt : Run

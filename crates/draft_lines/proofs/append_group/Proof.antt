@@ -1,9 +1,9 @@
 -- `draft_lines::append_group` meets its contract: the values written so far, and the group from the line reached, are the group from the start.
 -- A value and its LF are shorter than its line, so the end never runs ahead of the place in the file. Assumes nothing.
-use Rattle.lines.specs.Keys.{isKeyLine}
+use Rattle.blocks_lines.specs.Keys.{isKeyLine}
 use Rattle.draft_lines.specs.Lines.{groupLines}
-use Rattle.lists.specs.Written.{Written}
-use Rattle.lists.proofs.Written.{written-none}
+use Rattle.base_lists.specs.Written.{Written}
+use Rattle.base_lists.proofs.Written.{written-none}
 use Rattle.draft_lines.proofs.Groups.{group-turn, group-done, key-line-turn}
 use borrow.Author.Needs.{needs}
 use native.Mathlib.Omega.{arith}

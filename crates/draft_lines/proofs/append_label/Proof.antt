@@ -1,7 +1,7 @@
 -- `draft_lines::append_label` meets its contract: the word, the label, and the suffix with its LF, one behind the other, are the line. Assumes
 -- nothing.
-use Rattle.scope.specs.Text.{text}
-use Rattle.lists.proofs.Written.{written-then, written-as}
+use Rattle.base_scope.specs.Text.{text}
+use Rattle.base_lists.proofs.Written.{written-then, written-as}
 use Rattle.draft_lines.proofs.Lines.{label-parts}
 use denote.Ref.{now}
 use borrow.Author.Needs.{needs}

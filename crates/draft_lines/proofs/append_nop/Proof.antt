@@ -1,6 +1,6 @@
 -- `draft_lines::append_nop` meets its contract: the four bytes are the line. Assumes nothing.
-use Rattle.scope.specs.Text.{text}
-use Rattle.draft_lines.specs.Lines.{lined}
+use Rattle.base_scope.specs.Text.{text}
+use Rattle.base_text.specs.Lines.{lined}
 use borrow.Author.Needs.{needs}
 use Rattle.draft_lines.proofs.append_nop.Statement.{statement}
 use Rattle.draft_lines.proofs.append_nop.Tie as tie

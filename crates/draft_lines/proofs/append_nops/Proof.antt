@@ -1,9 +1,10 @@
 -- `draft_lines::append_nops` meets its contract: lines that do not fit are counted by their length, and else i lines are written after i turns.
 -- Assumes nothing.
-use Rattle.scope.specs.Text.{text}
-use Rattle.draft_lines.specs.Lines.{lined, nopLines}
-use Rattle.lists.specs.Written.{Written}
-use Rattle.lists.proofs.Written.{written-none, written-short, written-then, written-as}
+use Rattle.base_scope.specs.Text.{text}
+use Rattle.base_text.specs.Lines.{lined}
+use Rattle.draft_lines.specs.Lines.{nopLines}
+use Rattle.base_lists.specs.Written.{Written}
+use Rattle.base_lists.proofs.Written.{written-none, written-short, written-then, written-as}
 use Rattle.draft_lines.proofs.Lines.{nop-lines-zero, nop-lines-next, length-nop-lines}
 use borrow.Author.Needs.{needs}
 use native.Mathlib.Omega.{arith}

@@ -1,7 +1,8 @@
 -- `draft_lines::append_section` meets its contract: each arm of the match appends the line of its row of the table. Assumes nothing.
-use Rattle.scope.specs.Text.{text}
-use Rattle.scope.specs.Codes.{codeName, sectionCodes}
-use Rattle.draft_lines.specs.Lines.{lined, sectionLine}
+use Rattle.base_scope.specs.Text.{text}
+use Rattle.base_scope.specs.Codes.{codeName, sectionCodes}
+use Rattle.base_text.specs.Lines.{lined}
+use Rattle.draft_lines.specs.Lines.{sectionLine}
 use native.Mathlib.Omega.{arith}
 use mathlib.Core.Path.{_≡_}
 use borrow.Author.Needs.{needs}

@@ -1,8 +1,9 @@
 -- `draft_lines::append_space` meets its contract: the word, the digits and an LF, one behind the other, are the line. Assumes nothing.
-use Rattle.scope.specs.Text.{text}
-use Rattle.draft_lines.specs.Lines.{lined, spaceLine}
-use Rattle.lists.proofs.Written.{written-then}
-use Rattle.draft_lines.proofs.Lines.{decimal-short}
+use Rattle.base_scope.specs.Text.{text}
+use Rattle.base_text.specs.Lines.{lined}
+use Rattle.draft_lines.specs.Lines.{spaceLine}
+use Rattle.base_lists.proofs.Written.{written-then}
+use Rattle.base_text.proofs.Decimals.{decimal-short}
 use native.Mathlib.Omega.{arith}
 use borrow.Author.Needs.{needs}
 use Rattle.draft_lines.proofs.append_space.Statement.{statement}

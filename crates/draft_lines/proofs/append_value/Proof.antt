@@ -1,7 +1,7 @@
 -- `draft_lines::append_value` meets its contract: the value of the line is appended as a line, and it is no longer than what is left of the file. Assumes
 -- nothing.
-use Rattle.draft_lines.specs.Lines.{lined}
-use Rattle.lists.proofs.Written.{written-as}
+use Rattle.base_text.specs.Lines.{lined}
+use Rattle.base_lists.proofs.Written.{written-as}
 use Rattle.draft_lines.proofs.Lines.{value-fits}
 use native.Mathlib.Omega.{arith}
 use mathlib.Core.Path.{ap}

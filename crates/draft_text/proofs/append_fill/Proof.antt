@@ -1,6 +1,7 @@
 -- Nops in .text, `.space` elsewhere; either is no longer than the gap, or than 18 bytes. Assumes nothing.
-use Rattle.lists.proofs.Written.{written-as}
-use Rattle.draft_lines.proofs.Lines.{length-nop-lines, length-space, decimal-short}
+use Rattle.base_lists.proofs.Written.{written-as}
+use Rattle.base_text.proofs.Decimals.{decimal-short}
+use Rattle.draft_lines.proofs.Lines.{length-nop-lines, length-space}
 use Rattle.draft_text.proofs.Text.{fill-nops, fill-space}
 use native.Mathlib.Omega.{arith}
 use Prim.Native.Nat.{_/_}
@@ -35,10 +36,4 @@ returns-2 c =
 pub append-fill-spec : {M : Type 1} → statement M
 append-fill-spec =
     tie.close
-    (tie.spec
-    append-nops-requires
-    same-length
-    returns
-    append-space-requires
-    same-length-2
-    returns-2)
+    (tie.spec append-nops-requires same-length returns append-space-requires same-length-2 returns-2)

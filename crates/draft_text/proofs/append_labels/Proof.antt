@@ -1,7 +1,9 @@
--- The labels of the first c lines of the block are written, each at most 2 ^ 21 bytes. Assumes nothing.
-use Rattle.blocks.proofs.Blocks.{count-high}
-use Rattle.lists.specs.Written.{Written}
-use Rattle.lists.proofs.Written.{written-none, written-then, written-as}
+-- The labels of the first k lines of the block are written, each at most 2 ^ 21 bytes. Assumes nothing.
+use Rattle.base_scope.specs.Codes.{LINES}
+use Rattle.base_scope.specs.Limits.{FILE_LIMIT}
+use Rattle.blocks_file.proofs.Blocks.{count-high}
+use Rattle.base_lists.specs.Written.{Written}
+use Rattle.base_lists.proofs.Written.{written-none, written-then, written-as}
 use Rattle.draft_text.proofs.Text.{labelsSo, labels-zero, labels-next, labels-all}
 use borrow.Author.Needs.{needs}
 use native.Mathlib.Omega.{arith}
@@ -12,10 +14,10 @@ use Rattle.draft_text.proofs.append_labels.Statement.{statement}
 use Rattle.draft_text.proofs.append_labels.Tie as tie
 
 abbrev Inv-loop : tie.InvT-loop
-Inv-loop out₀ at file table suffix i next₀ c₀ out next c = (c ≤ 4) × Written out₀ at (labelsSo file suffix i c) next out × (next ≤ at + c * 2097152)
+Inv-loop out₀ at file table suffix i next₀ k₀ out next k = (k ≤ LINES) × Written out₀ at (labelsSo file suffix i k) next out × (next ≤ at + k * (2 * FILE_LIMIT))
 
 abbrev μ-loop : tie.MeasureT-loop
-μ-loop out₀ at file table suffix i next₀ c₀ out next c = 4 - c
+μ-loop out₀ at file table suffix i next₀ k₀ out next k = LINES - k
 
 loop-holds : tie.Need-loop-holds Inv-loop μ-loop
 loop-holds c =
@@ -34,8 +36,8 @@ append-label-text-requires c κs =
     let q = c .before .before .before .before .before .before .before .pre in
     (q .0, omega (arith, q .1), omega (arith, l .inv .2), q .3)
 
-add-c : tie.Need-add-c Inv-loop μ-loop
-add-c c = search needs
+add-k : tie.Need-add-k Inv-loop μ-loop
+add-k c = search needs
 
 loop-less : tie.Need-loop-less Inv-loop μ-loop
 loop-less c = omega arith
@@ -45,7 +47,7 @@ loop-again c =
     let a = c .before .before .before .before .before .before .before .before .before .before .args in
     let l = c .before .before .before .before .before .loop in
     let w = c .before .before .append-label-text .ensures in
-    (omega arith, written-as _ _ _ _ _ _ (labels-next (now (a .file)) (now (a .suffix)) (a .i) (l .c)) (written-then _ _ _ _ _ _ _ _ (l .inv .1) (w .0)), omega (arith, l .inv .2, w .1))
+    (omega arith, written-as _ _ _ _ _ _ (labels-next (now (a .file)) (now (a .suffix)) (a .i) (l .k)) (written-then _ _ _ _ _ _ _ _ (l .inv .1) (w .0)), omega (arith, l .inv .2, w .1))
 
 same-length : tie.Need-same-length Inv-loop μ-loop
 same-length c = c .before .loop .inv .1 .long
@@ -54,7 +56,7 @@ returns : tie.Need-returns Inv-loop μ-loop
 returns c =
     let a = c .before .before .before .before .before .before .args in
     let l = c .before .loop in
-    let e : l .c ≡ 4 = omega arith in
+    let e : l .k ≡ LINES = omega arith in
     (written-as _ _ _ _ _ _ (ap (labelsSo (now (a .file)) (now (a .suffix)) (a .i)) e ∙ labels-all (now (a .file)) (now (a .suffix)) (a .i)) (l .inv .1), omega (arith, l .inv .2))
 
 pub append-labels-spec : {M : Type 1} → statement M
@@ -67,7 +69,7 @@ append-labels-spec =
     mul-append-label-text
     add-append-label-text
     append-label-text-requires
-    add-c
+    add-k
     loop-less
     loop-again
     same-length

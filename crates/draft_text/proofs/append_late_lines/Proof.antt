@@ -1,10 +1,14 @@
--- `draft_text::append_late_lines` meets its contract: what is written so far are the late lines of the blocks before block i, and each block moves the
--- end by at most the length of the block file. Assumes nothing.
-use Rattle.lists.specs.Ranges.{gather}
-use Rattle.blocks.specs.Blocks.{blockCount}
-use Rattle.blocks.proofs.Blocks.{count-high}
-use Rattle.places.specs.Spans.{live}
-use Rattle.lists.specs.Written.{Written}
+-- What is written so far are the late lines of the blocks before block i, and each block moves the end by at most the length of the block file. Assumes nothing.
+use lib.Dec.{lit≤}
+use Rattle.base_lists.specs.Ranges.{gather}
+use Rattle.base_lists.specs.Written.{Written}
+use Rattle.base_scope.specs.Limits.{FILE_LIMIT, BLOCK_LIMIT}
+use Rattle.blocks_file.specs.Blocks.{blockCount}
+use Rattle.blocks_file.proofs.Blocks.{count-high}
+use Rattle.blocks_file.proofs.Table.{group-in, parsed-inside}
+use Rattle.blocks_places.specs.Lines.{lineCount}
+use Rattle.blocks_places.specs.Places.{live}
+use Rattle.blocks_places.specs.Table.{placesIn}
 use Rattle.draft_text.specs.Draft.{lateText}
 use Rattle.draft_text.proofs.Late.{late-start, late-turn, late-pass, late-done, late-from, late-grows}
 use borrow.Author.Needs.{needs}
@@ -16,31 +20,41 @@ use Rattle.draft_text.proofs.append_late_lines.Statement.{statement}
 use Rattle.draft_text.proofs.append_late_lines.Tie as tie
 
 abbrev Inv-loop : tie.InvT-loop
-Inv-loop out₀ at order compiled file table places count next₀ i₀ out next i =
-    (i ≤ count) × (next ≤ at + i * 1048576) × Written out₀ at (gather (live order compiled file) (lateText file) i) next out
+Inv-loop out₀ at file table places count next₀ i₀ out next i =
+    (i ≤ count) × (next ≤ at + i * FILE_LIMIT) × Written out₀ at (gather (live (placesIn places (lineCount file)) file) (lateText file) i) next out
 
 abbrev μ-loop : tie.MeasureT-loop
-μ-loop out₀ at order compiled file table places count next₀ i₀ out next i = count - i
+μ-loop out₀ at file table places count next₀ i₀ out next i = count - i
 
 loop-holds : tie.Need-loop-holds Inv-loop μ-loop
 loop-holds c =
-    let a = c .before .before .before .before .before .args in
-    (omega arith, omega arith, late-start (a .order) (now (a .compiled)) (now (a .file)) (now (a .out)) (a .at))
+    let a = c .before .before .before .before .args in
+    (omega arith, omega arith, late-start _ (now (a .file)) (now (a .out)) (a .at))
 
 is-live-requires : tie.Need-is-live-requires Inv-loop μ-loop
 is-live-requires c κs = search needs
 
+cast-group-start : tie.Need-cast-group-start Inv-loop μ-loop
+cast-group-start c = search needs
+
 group-start-requires : tie.Need-group-start-requires Inv-loop μ-loop
-group-start-requires c κs = search needs
+group-start-requires c κs =
+    let a = c .before .before .before .before .before .before .before .before .args in
+    let p = c .before .before .before .before .before .before .before .before .pre in
+    let l = c .before .before .before .loop in
+    let u : l .i < blockCount (now (a .file)) = omega (arith, p .1, c .before .before .loop-test .taken) in
+    let q = parsed-inside (now (a .file)) (now (a .table)) (p .0 .parsed) (l .i) u in
+    (q .0, q .1, lit≤ tt)
 
 append-group-requires : tie.Need-append-group-requires Inv-loop μ-loop
 append-group-requires c κs =
-    let a = c .before .before .before .before .before .before .before .before .before .before .before .args in
-    let p = c .before .before .before .before .before .before .before .before .before .before .before .pre in
+    let a = c .before .before .before .before .before .before .before .before .before .before .args in
+    let p = c .before .before .before .before .before .before .before .before .before .before .pre in
     let l = c .before .before .before .before .before .loop in
     let u : l .i < blockCount (now (a .file)) = omega (arith, p .1, c .before .before .before .before .loop-test .taken) in
-    let n : blockCount (now (a .file)) ≤ 1024 = count-high (now (a .file)) in
-    (omega (arith, p .0 .parsed .small, p .2, l .inv .1, u, n), omega arith, late-from (now (a .file)) (l .i) (c .before .group-start .result) u (c .before .group-start .ensures))
+    let n : blockCount (now (a .file)) ≤ BLOCK_LIMIT = count-high (now (a .file)) in
+    let e = c .before .group-start .ensures .0 ∙ group-in (now (a .file)) (now (a .table)) (p .0 .parsed) (l .i) _ u (lit≤ tt) in
+    (omega (arith, p .0 .parsed .small, p .2, l .inv .1, u, n), lit≤ tt, late-from (now (a .file)) (l .i) (c .before .group-start .result) u e)
 
 add-i : tie.Need-add-i Inv-loop μ-loop
 add-i c = search needs
@@ -50,17 +64,18 @@ loop-less c = search needs
 
 loop-again : tie.Need-loop-again Inv-loop μ-loop
 loop-again c =
-    let a = c .before .before .before .before .before .before .before .before .before .before .before .before .before .before .args in
-    let p = c .before .before .before .before .before .before .before .before .before .before .before .before .before .before .pre in
+    let a = c .before .before .before .before .before .before .before .before .before .before .before .before .before .args in
+    let p = c .before .before .before .before .before .before .before .before .before .before .before .before .before .pre in
     let l = c .before .before .before .before .before .before .before .before .loop in
     let s = c .before .before .before .before .group-start in
     let g = c .before .before .append-group in
     let u : l .i < blockCount (now (a .file)) = omega (arith, p .1, c .before .before .before .before .before .before .before .loop-test .taken) in
+    let e = s .ensures .0 ∙ group-in (now (a .file)) (now (a .table)) (p .0 .parsed) (l .i) _ u (lit≤ tt) in
     let t = sym (c .before .before .before .before .before .before .is-live .ensures) ∙ c .before .before .before .before .before .if1 .taken in
-    let q : g .result ≤ l .next + 1048576 = late-grows (now (a .file)) (l .i) (s .result) (l .next) (l .out) (g .result) (g .last .0) (p .0 .parsed .small) u (s .ensures) (g .ensures) in (
+    let q : g .result ≤ l .next + FILE_LIMIT = late-grows (now (a .file)) (l .i) (s .result) (l .next) (l .out) (g .result) (g .last .0) (p .0 .parsed .small) u e (g .ensures) in (
       omega (arith, p .1, u),
       omega (arith, q, l .inv .1),
-      late-turn (a .order) (now (a .compiled)) (now (a .file)) (now (a .out)) (a .at) (l .i) (l .next) (l .out) (l .inv .2) (s .result) (g .result) (g .last .0) t (s .ensures) (g .ensures),
+      late-turn _ (now (a .file)) (now (a .out)) (a .at) (l .i) (l .next) (l .out) (l .inv .2) (s .result) (g .result) (g .last .0) t e (g .ensures),
     )
 
 add-i-2 : tie.Need-add-i-2 Inv-loop μ-loop
@@ -71,27 +86,22 @@ loop-less-2 c = search needs
 
 loop-again-2 : tie.Need-loop-again-2 Inv-loop μ-loop
 loop-again-2 c =
-    let a = c .before .before .before .before .before .before .before .before .before .args in
+    let a = c .before .before .before .before .before .before .before .before .args in
     let l = c .before .before .before .loop in
-    let f = sym (c .before .is-live .ensures) ∙ c .if1 .left in (
-      omega arith,
-      omega arith,
-      late-pass (a .order) (now (a .compiled)) (now (a .file)) (now (a .out)) (a .at) (l .i) (l .next) (l .out) (l .inv .2) f,
-    )
+    let f = sym (c .before .is-live .ensures) ∙ c .if1 .left in
+    (omega arith, omega arith, late-pass _ (now (a .file)) (now (a .out)) (a .at) (l .i) (l .next) (l .out) (l .inv .2) f)
 
 same-length : tie.Need-same-length Inv-loop μ-loop
-same-length c = search needs
+same-length c = c .before .loop .inv .2 .long
 
 returns : tie.Need-returns Inv-loop μ-loop
 returns c =
-    let a = c .before .before .before .before .before .before .before .args in
-    let p = c .before .before .before .before .before .before .before .pre in
+    let a = c .before .before .before .before .before .before .args in
+    let p = c .before .before .before .before .before .before .pre in
     let l = c .before .loop in
     let e : l .i ≡ blockCount (now (a .file)) = omega (arith, p .1, l .inv .0, c .loop-test .left) in
-    let n : blockCount (now (a .file)) ≤ 1024 = count-high (now (a .file)) in (
-      late-done (a .order) (now (a .compiled)) (now (a .file)) (now (a .out)) (a .at) (l .i) (l .next) (l .out) (l .inv .2) e,
-      omega (arith, e, n, l .inv .1),
-    )
+    let n : blockCount (now (a .file)) ≤ BLOCK_LIMIT = count-high (now (a .file)) in
+    (late-done _ (now (a .file)) (now (a .out)) (a .at) (l .i) (l .next) (l .out) (l .inv .2) e, omega (arith, e, n, l .inv .1))
 
 pub append-late-lines-spec : {M : Type 1} → statement M
 append-late-lines-spec =
@@ -101,6 +111,7 @@ append-late-lines-spec =
     μ-loop
     loop-holds
     is-live-requires
+    cast-group-start
     group-start-requires
     append-group-requires
     add-i

@@ -1,8 +1,9 @@
--- `draft_text::is_late` meets its contract: the search for a block with a late line, from the first block, is the search from block i on, since no
--- block before i has one. Assumes nothing.
-use Rattle.lists.specs.Ranges.{first}
-use Rattle.lists.proofs.Ranges.{first-next}
-use Rattle.blocks.specs.Blocks.{blockCount}
+-- The search for a block with a late line, from the first block, is the search from block i on, since no block before i has one. Assumes nothing.
+use Rattle.base_lists.specs.Ranges.{first}
+use Rattle.base_lists.proofs.Ranges.{first-next}
+use Rattle.blocks_file.specs.Blocks.{blockCount}
+use Rattle.blocks_places.specs.Lines.{lineCount}
+use Rattle.blocks_places.specs.Table.{placesIn}
 use Rattle.draft_text.specs.Draft.{lateAt}
 use Rattle.draft_text.proofs.Late.{some-late, none-late}
 use borrow.Author.Needs.{needs}
@@ -14,11 +15,11 @@ use Rattle.draft_text.proofs.is_late.Statement.{statement}
 use Rattle.draft_text.proofs.is_late.Tie as tie
 
 abbrev Inv-loop : tie.InvT-loop
-Inv-loop order compiled file table places count i₀ i =
-    (i ≤ count) × (first (lateAt order compiled file) 0 (blockCount file) ≡ first (lateAt order compiled file) i (blockCount file))
+Inv-loop file table places count i₀ i =
+    (i ≤ count) × (first (lateAt (placesIn places (lineCount file)) file) 0 (blockCount file) ≡ first (lateAt (placesIn places (lineCount file)) file) i (blockCount file))
 
 abbrev μ-loop : tie.MeasureT-loop
-μ-loop order compiled file table places count i₀ i = count - i
+μ-loop file table places count i₀ i = count - i
 
 loop-holds : tie.Need-loop-holds Inv-loop μ-loop
 loop-holds c = (omega arith, refl)
@@ -28,11 +29,10 @@ has-late-requires c κs = search needs
 
 returns : tie.Need-returns Inv-loop μ-loop
 returns c =
-    let a = c .before .before .before .before .before .before .before .before .args in
-    let p = c .before .before .before .before .before .before .before .before .pre in
+    let a = c .before .before .before .before .before .before .before .args in
     let l = c .before .before .before .loop in
-    let u : l .i < blockCount (now (a .file)) = omega (arith, p .1, c .before .before .loop-test .taken) in
-    some-late (a .order) (now (a .compiled)) (now (a .file)) (l .i) u (l .inv .1) (sym (c .before .has-late .ensures) ∙ c .if1 .taken)
+    let u : l .i < blockCount (now (a .file)) = omega (arith, c .before .before .before .before .before .before .before .pre .1, c .before .before .loop-test .taken) in
+    some-late _ (now (a .file)) (l .i) u (l .inv .1) (sym (c .before .has-late .ensures) ∙ c .if1 .taken)
 
 add-i : tie.Need-add-i Inv-loop μ-loop
 add-i c = search needs
@@ -42,20 +42,17 @@ loop-less c = search needs
 
 loop-again : tie.Need-loop-again Inv-loop μ-loop
 loop-again c =
-    let a = c .before .before .before .before .before .before .before .before .args in
-    let p = c .before .before .before .before .before .before .before .before .pre in
+    let a = c .before .before .before .before .before .before .before .args in
     let l = c .before .before .before .loop in
-    let u : l .i < blockCount (now (a .file)) = omega (arith, p .1, c .before .before .loop-test .taken) in
-    let f = sym (c .before .has-late .ensures) ∙ c .if1 .left in
-    (omega arith, l .inv .1 ∙ first-next (lateAt (a .order) (now (a .compiled)) (now (a .file))) (l .i) (blockCount (now (a .file))) u f)
+    let u : l .i < blockCount (now (a .file)) = omega (arith, c .before .before .before .before .before .before .before .pre .1, c .before .before .loop-test .taken) in
+    (omega arith, l .inv .1 ∙ first-next (lateAt _ (now (a .file))) (l .i) (blockCount (now (a .file))) u (sym (c .before .has-late .ensures) ∙ c .if1 .left))
 
 returns-2 : tie.Need-returns-2 Inv-loop μ-loop
 returns-2 c =
-    let a = c .before .before .before .before .before .before .args in
-    let p = c .before .before .before .before .before .before .pre in
+    let a = c .before .before .before .before .before .args in
     let l = c .before .loop in
-    let u : blockCount (now (a .file)) ≤ l .i = omega (arith, p .1, c .loop-test .left) in
-    none-late (a .order) (now (a .compiled)) (now (a .file)) (l .i) u (l .inv .1)
+    let u : blockCount (now (a .file)) ≤ l .i = omega (arith, c .before .before .before .before .before .pre .1, c .loop-test .left) in
+    none-late _ (now (a .file)) (l .i) u (l .inv .1)
 
 pub is-late-spec : {M : Type 1} → statement M
 is-late-spec =

@@ -1,7 +1,7 @@
 -- `late_blocks::place_dummies` meets its contract: after k turns the places of k dummies stand in the table and the next search begins at `here`. A turn ends the loop
 -- at the first dummy that is lost, and else writes one word more. Assumes nothing.
-use Rattle.late_blocks.proofs.Items.{spot-at, spot-lost, Placing, placing-none, placing-lost, placing-fits, placing-next, placing-end}
-use Rattle.moves.specs.Moves.{itemPlace, itemFault}
+use Rattle.late_blocks.proofs.Items.{spot-at, spot-lost, PlacingDummies, placing-none, placing-lost, placing-fits, placing-next, placing-end}
+use Rattle.late_moves.specs.Moves.{itemPlace, itemFault}
 use borrow.Author.Needs.{needs}
 use native.Mathlib.Omega.{arith}
 use Prim.Native.Nat.{_-_}
@@ -11,7 +11,7 @@ use Rattle.late_blocks.proofs.place_dummies.Tie as tie
 
 abbrev Inv-loop : tie.InvT-loop
 Inv-loop order rodata file table i count last late₀ at here₀ k₀ late here k =
-    Placing order file rodata i last count late₀ at k here late
+    PlacingDummies order file rodata i last count late₀ at k here late
 
 abbrev μ-loop : tie.MeasureT-loop
 μ-loop order rodata file table i count last late₀ at here₀ k₀ late here k = count - k

@@ -19,7 +19,7 @@ add-if1 : tie.Need-add-if1
 add-if1 c =
     let a = c .before .before .before .args in
     let p = c .before .before .before .pre in
-    omega (arith, p .2, c .field-at .ensures .0, c .field-at .ensures .1, c .before .row-bytes .ensures, p .0 .tables (a .i) (p .1))
+    omega (arith, p .1, c .field-at .ensures .0, c .field-at .ensures .1, c .before .row-bytes .ensures, p .0 .tables)
 
 returns : tie.Need-returns
 returns c =
@@ -31,7 +31,7 @@ add-result : tie.Need-add-result
 add-result c =
     let a = c .before .before .before .before .args in
     let p = c .before .before .before .before .pre in
-    omega (arith, p .2, c .before .field-at .ensures .0, c .before .field-at .ensures .1, c .before .before .row-bytes .ensures, p .0 .tables (a .i) (p .1))
+    omega (arith, p .1, c .before .field-at .ensures .0, c .before .field-at .ensures .1, c .before .before .row-bytes .ensures, p .0 .tables)
 
 sub-result : tie.Need-sub-result
 sub-result c = search needs

@@ -22,21 +22,21 @@ sub-result : tie.Need-sub-result
 sub-result c =
     let a = c .before .before .before .before .args in
     let p = c .before .before .before .before .pre in
-    let q = p .0 .parts (a .i) (p .1) in
+    let q = p .parts in
     omega (arith, c .field-at2 .ensures .0, c .field-at2 .ensures .1, c .before .field-at .ensures .0, c .before .before .row-dummies .ensures, q)
 
 mul-result : tie.Need-mul-result
 mul-result c =
     let a = c .before .before .before .before .args in
     let p = c .before .before .before .before .pre in
-    let q = p .0 .parts (a .i) (p .1) in
+    let q = p .parts in
     omega (arith, c .field-at2 .ensures .0, c .field-at2 .ensures .1, c .before .field-at .ensures .0, c .before .before .row-dummies .ensures, q)
 
 sub-result-2 : tie.Need-sub-result-2
 sub-result-2 c =
     let a = c .before .before .before .before .args in
     let p = c .before .before .before .before .pre in
-    let q = p .0 .parts (a .i) (p .1) in
+    let q = p .parts in
     omega (arith, c .field-at2 .ensures .0, c .field-at2 .ensures .1, c .before .field-at .ensures .0, c .before .before .row-dummies .ensures, q)
 
 returns : tie.Need-returns

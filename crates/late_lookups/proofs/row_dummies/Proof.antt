@@ -19,7 +19,7 @@ sub-result : tie.Need-sub-result
 sub-result c =
     let a = c .before .before .before .args in
     let p = c .before .before .before .pre in
-    omega (arith, c .field-at2 .ensures .0, c .before .field-at .ensures .0, p .0 .rises 1 (a .i) (omega arith) (p .1))
+    omega (arith, c .field-at2 .ensures .0, c .before .field-at .ensures .0, p .rises 1 (omega arith))
 
 returns : tie.Need-returns
 returns c =

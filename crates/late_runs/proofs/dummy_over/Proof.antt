@@ -1,6 +1,6 @@
 -- `late_runs::dummy_over` meets its contract: the words of a block ascend, so one behind a word that ends past x ends past x too, and the first such word lies
 -- between `low` and `high`. A turn halves what is between them. Assumes nothing.
-use Rattle.lists.proofs.Halves.{Halving, halving-none, halving-down, halving-up, halving-end}
+use Rattle.base_lists.proofs.Halves.{Halving, halving-none, halving-down, halving-up, halving-end}
 use Rattle.late_runs.specs.Words.{wordPast}
 use Rattle.late_runs.proofs.Words.{past-yes, past-no, past-on, over-read}
 use native.Mathlib.Omega.{arith}
@@ -10,10 +10,10 @@ use Rattle.late_runs.proofs.dummy_over.Statement.{statement}
 use Rattle.late_runs.proofs.dummy_over.Tie as tie
 
 abbrev Inv-loop : tie.InvT-loop
-Inv-loop late n i count x low₀ high₀ low high = Halving (wordPast late i x) count low high
+Inv-loop late i count x low₀ high₀ low high = Halving (wordPast late i x) count low high
 
 abbrev μ-loop : tie.MeasureT-loop
-μ-loop late n i count x low₀ high₀ low high = high - low
+μ-loop late i count x low₀ high₀ low high = high - low
 
 loop-holds : tie.Need-loop-holds Inv-loop μ-loop
 loop-holds c =
@@ -47,7 +47,7 @@ loop-again c =
     let l = c .before .before .before .loop in
     let m = l .low + (l .high - l .low) / 2 in
     let t = past-yes (now (a .late)) (a .i) (a .x) m (omega (arith, c .before .dummy-place .ensures .0)) in
-    halving-down (wordPast (now (a .late)) (a .i) (a .x)) (a .count) (l .low) (l .high) (l .inv) (past-on (now (a .late)) (a .i) (a .x) (a .n) (a .count) (p .0) (p .1)) m (omega arith) t (omega arith)
+    halving-down (wordPast (now (a .late)) (a .i) (a .x)) (a .count) (l .low) (l .high) (l .inv) (past-on (now (a .late)) (a .i) (a .x) (a .count) (p .0) (p .1)) m (omega arith) t (omega arith)
 
 add-low : tie.Need-add-low Inv-loop μ-loop
 add-low c =
@@ -63,7 +63,7 @@ loop-again-2 c =
     let l = c .before .before .before .loop in
     let m = l .low + (l .high - l .low) / 2 in
     let f = past-no (now (a .late)) (a .i) (a .x) m (omega (arith, c .before .dummy-place .ensures .0)) in
-    halving-up (wordPast (now (a .late)) (a .i) (a .x)) (a .count) (l .low) (l .high) (l .inv) (past-on (now (a .late)) (a .i) (a .x) (a .n) (a .count) (p .0) (p .1)) m (omega arith) f (omega arith)
+    halving-up (wordPast (now (a .late)) (a .i) (a .x)) (a .count) (l .low) (l .high) (l .inv) (past-on (now (a .late)) (a .i) (a .x) (a .count) (p .0) (p .1)) m (omega arith) f (omega arith)
 
 returns : tie.Need-returns Inv-loop μ-loop
 returns c =

@@ -11,34 +11,34 @@ field-at-requires : tie.Need-field-at-requires
 field-at-requires c κs =
     let a = c .before .args in
     let p = c .before .pre in
-    (omega arith, omega (arith, p .0 .inside, p .0 .sound .few), omega (arith, p .0 .inside, p .0 .sound .long))
+    (omega arith, omega (arith, p .0 .row .few), omega (arith, p .0 .row .long))
 
 add-m : tie.Need-add-m
 add-m c =
     let a = c .before .before .args in
     let p = c .before .before .pre in
-    let w = row-words (now (a .late)) (a .n) (a .i) (p .0 .sound) (p .0 .inside) (a .k) (p .1) in
+    let w = row-words (now (a .late)) (a .i) (p .0 .row) (a .k) (p .1) in
     omega (arith, w, c .field-at .ensures .0)
 
 mul-read32 : tie.Need-mul-read32
 mul-read32 c =
     let a = c .before .before .args in
     let p = c .before .before .pre in
-    let w = row-words (now (a .late)) (a .n) (a .i) (p .0 .sound) (p .0 .inside) (a .k) (p .1) in
+    let w = row-words (now (a .late)) (a .i) (p .0 .row) (a .k) (p .1) in
     omega (arith, w, c .field-at .ensures .0)
 
 add-read32 : tie.Need-add-read32
 add-read32 c =
     let a = c .before .before .args in
     let p = c .before .before .pre in
-    let w = row-words (now (a .late)) (a .n) (a .i) (p .0 .sound) (p .0 .inside) (a .k) (p .1) in
+    let w = row-words (now (a .late)) (a .i) (p .0 .row) (a .k) (p .1) in
     omega (arith, w, c .field-at .ensures .0)
 
 read32-requires : tie.Need-read32-requires
 read32-requires c κs =
     let a = c .before .before .args in
     let p = c .before .before .pre in
-    let w = row-words (now (a .late)) (a .n) (a .i) (p .0 .sound) (p .0 .inside) (a .k) (p .1) in
+    let w = row-words (now (a .late)) (a .i) (p .0 .row) (a .k) (p .1) in
     omega (arith, w, c .field-at .ensures .0)
 
 cast-result : tie.Need-cast-result

@@ -9,37 +9,37 @@ add-field-at : tie.Need-add-field-at
 add-field-at c =
     let a = c .before .args in
     let p = c .before .pre in
-    omega (arith, p .1, p .0 .few)
+    omega (arith, p .0 .few)
 
 field-at-requires : tie.Need-field-at-requires
 field-at-requires c κs =
     let a = c .before .args in
     let p = c .before .pre in
-    (omega arith, omega (arith, p .1, p .0 .few), omega (arith, p .1, p .0 .long))
+    (omega arith, omega (arith, p .0 .few), omega (arith, p .0 .long))
 
 sub-rest : tie.Need-sub-rest
 sub-rest c =
     let a = c .before .before .args in
     let p = c .before .before .pre in
-    omega (arith, p .2, c .field-at .ensures .0)
+    omega (arith, p .1, c .field-at .ensures .0)
 
 add-field-at-2 : tie.Need-add-field-at-2
 add-field-at-2 c =
     let a = c .before .before .args in
     let p = c .before .before .pre in
-    omega (arith, p .1, p .0 .few)
+    omega (arith, p .0 .few)
 
 field-at-requires-2 : tie.Need-field-at-requires-2
 field-at-requires-2 c κs =
     let a = c .before .before .args in
     let p = c .before .before .pre in
-    (omega arith, omega (arith, p .1, p .0 .few), omega (arith, p .1, p .0 .long))
+    (omega arith, omega (arith, p .0 .few), omega (arith, p .0 .long))
 
-sub-t8 : tie.Need-sub-t8
-sub-t8 c =
+sub-t7 : tie.Need-sub-t7
+sub-t7 c =
     let a = c .before .before .before .args in
     let p = c .before .before .before .pre in
-    omega (arith, p .3, c .field-at2 .ensures .0, c .before .field-at .ensures .0)
+    omega (arith, p .2, c .field-at2 .ensures .0, c .before .field-at .ensures .0)
 
 returns : tie.Need-returns
 returns c =
@@ -56,5 +56,5 @@ table-run-spec =
     sub-rest
     add-field-at-2
     field-at-requires-2
-    sub-t8
+    sub-t7
     returns)

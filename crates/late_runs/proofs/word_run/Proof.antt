@@ -1,5 +1,5 @@
 -- `late_runs::word_run` meets its contract: the numbers read are those of the definition, and all are small. Assumes nothing.
-use Rattle.block_values.proofs.DummyLines.{count-few}
+use Rattle.blocks_items.proofs.DummyLines.{count-few}
 use Rattle.late_runs.proofs.Words.{run-in-word, run-before}
 use native.Mathlib.Omega.{arith}
 use mathlib.Core.Path.{_∙_}
@@ -17,16 +17,22 @@ field-at-requires : tie.Need-field-at-requires
 field-at-requires c κs =
     let a = c .before .before .before .before .before .before .args in
     let p = c .before .before .before .before .before .before .pre in
-    (omega arith, omega (arith, p .rising .inside, p .rising .sound .few), omega (arith, p .rising .inside, p .rising .sound .long))
+    (omega arith, omega (arith, p .rising .row .few), omega (arith, p .rising .row .long))
 
-mul-t15 : tie.Need-mul-t15
-mul-t15 c =
+mul-t14 : tie.Need-mul-t14
+mul-t14 c =
     let a = c .before .before .before .before .before .before .before .args in
     let p = c .before .before .before .before .before .before .before .pre in
     omega (arith, p .offset, p .small, p .fits, p .past, p .inside, c .before .before .dummy-place .ensures .0, c .field-at .ensures .0, count-few (now (a .file)) (a .i) (p .counted), p .parsed .small, p .dummies)
 
-add-t16 : tie.Need-add-t16
-add-t16 c =
+add-t15 : tie.Need-add-t15
+add-t15 c =
+    let a = c .before .before .before .before .before .before .before .args in
+    let p = c .before .before .before .before .before .before .before .pre in
+    omega (arith, p .offset, p .small, p .fits, p .past, p .inside, c .before .before .dummy-place .ensures .0, c .field-at .ensures .0, count-few (now (a .file)) (a .i) (p .counted), p .parsed .small, p .dummies)
+
+add-t17 : tie.Need-add-t17
+add-t17 c =
     let a = c .before .before .before .before .before .before .before .args in
     let p = c .before .before .before .before .before .before .before .pre in
     omega (arith, p .offset, p .small, p .fits, p .past, p .inside, c .before .before .dummy-place .ensures .0, c .field-at .ensures .0, count-few (now (a .file)) (a .i) (p .counted), p .parsed .small, p .dummies)
@@ -37,14 +43,8 @@ add-t18 c =
     let p = c .before .before .before .before .before .before .before .pre in
     omega (arith, p .offset, p .small, p .fits, p .past, p .inside, c .before .before .dummy-place .ensures .0, c .field-at .ensures .0, count-few (now (a .file)) (a .i) (p .counted), p .parsed .small, p .dummies)
 
-add-t19 : tie.Need-add-t19
-add-t19 c =
-    let a = c .before .before .before .before .before .before .before .args in
-    let p = c .before .before .before .before .before .before .before .pre in
-    omega (arith, p .offset, p .small, p .fits, p .past, p .inside, c .before .before .dummy-place .ensures .0, c .field-at .ensures .0, count-few (now (a .file)) (a .i) (p .counted), p .parsed .small, p .dummies)
-
-sub-t20 : tie.Need-sub-t20
-sub-t20 c =
+sub-t19 : tie.Need-sub-t19
+sub-t19 c =
     let a = c .before .before .before .before .before .before .before .args in
     let p = c .before .before .before .before .before .before .before .pre in
     omega (arith, p .offset, p .small, p .fits, p .past, p .inside, c .before .before .dummy-place .ensures .0, c .field-at .ensures .0, count-few (now (a .file)) (a .i) (p .counted), p .parsed .small, p .dummies)
@@ -60,7 +60,7 @@ field-at-requires-2 : tie.Need-field-at-requires-2
 field-at-requires-2 c κs =
     let a = c .before .before .before .before .before .before .args in
     let p = c .before .before .before .before .before .before .pre in
-    (omega arith, omega (arith, p .rising .inside, p .rising .sound .few), omega (arith, p .rising .inside, p .rising .sound .long))
+    (omega arith, omega (arith, p .rising .row .few), omega (arith, p .rising .row .long))
 
 has-moved-on-requires : tie.Need-has-moved-on-requires
 has-moved-on-requires c κs =
@@ -90,11 +90,11 @@ word-run-spec =
     (tie.spec
     dummy-place-requires
     field-at-requires
-    mul-t15
-    add-t16
+    mul-t14
+    add-t15
+    add-t17
     add-t18
-    add-t19
-    sub-t20
+    sub-t19
     returns
     field-at-requires-2
     has-moved-on-requires

@@ -1,0 +1,161 @@
+// Byte strings and the names of string tables: where a name ends, the name as a part of its table, and comparisons. Each equals its
+// definition in the crate base_lists, specs/Strings.antt: comparisons are equations of lists, so a zero byte in a compared string is a byte
+// like any other.
+ghost use mathlib.Core.Path.{_≡_};
+ghost use lib.ListN.{length};
+ghost use Rattle.base_lists.specs.Ranges.{pastLast};
+ghost use Rattle.base_lists.specs.Strings.{same, prefixed, zeroAt, nameEnd, nameAt, ascii};
+ghost use Rattle.base_names.specs.Ends.{endsApart};
+ghost use Rattle.base_names.specs.Tables.{tableOf};
+
+// The object that a name comes from.
+pub enum Owner {
+    Compiled,
+    Assembled,
+}
+
+// Where the name at `at` ends: its zero byte, or the end of the table.
+pub fn end_of(t: &[u8], at: usize) -> usize
+    ensures { λ r. ⌜ r ≡ nameEnd (now (t .entry)) at ⌝ }
+{
+    let mut i = at;
+    while i < t.len() {
+        if t[i] == 0 {
+            return i;
+        }
+        i += 1;
+    }
+    i
+}
+
+// The name at `at`, as a part of its table; empty where `at` lies past the end.
+pub fn name_at<'a>(t: &'a [u8], at: usize) -> &'a [u8]
+    ensures { λ r. ⌜ now r ≡ nameAt (now (t .entry)) at ⌝ }
+{
+    if at > t.len() {
+        return &t[0..0];
+    }
+    let e = end_of(t, at);
+    &t[at..e]
+}
+
+// The name at `at` of the compiled or the assembled object's string table, as a part of that table.
+pub fn name_of<'a>(compiled: &'a [u8], assembled: &'a [u8], owner: Owner, at: usize) -> &'a [u8]
+    ensures { λ r. ⌜ now r ≡ nameAt (tableOf owner (now (compiled .entry)) (now (assembled .entry))) at ⌝ }
+{
+    match owner {
+        Owner::Compiled => name_at(compiled, at),
+        Owner::Assembled => name_at(assembled, at),
+    }
+}
+
+// One past the last zero byte of a table, 0 where there is none. A name has a zero end exactly where it starts below this
+// (the crate base_lists, proofs/Strings.antt, `has-end-past`), so one pass over a table answers for all its names.
+pub fn past_last_zero(t: &[u8]) -> usize
+    ensures { λ r. ⌜ r ≡ pastLast (zeroAt (now (t .entry))) (length (now (t .entry))) ⌝ }
+{
+    let mut n = t.len();
+    while n > 0 {
+        if t[n - 1] == 0 {
+            return n;
+        }
+        n -= 1;
+    }
+    0
+}
+
+// Whether two byte strings are equal.
+pub fn same_bytes(a: &[u8], b: &[u8]) -> bool
+    ensures { λ r. ⌜ r ≡ same (now (a .entry)) (now (b .entry)) ⌝ }
+{
+    if a.len() != b.len() {
+        return false;
+    }
+    let mut i: usize = 0;
+    while i < a.len() {
+        if a[i] != b[i] {
+            return false;
+        }
+        i += 1;
+    }
+    true
+}
+
+// Whether a byte string begins with a prefix.
+pub fn has_prefix(s: &[u8], p: &[u8]) -> bool
+    ensures { λ r. ⌜ r ≡ prefixed (now (p .entry)) (now (s .entry)) ⌝ }
+{
+    let n = p.len();
+    if s.len() < n {
+        return false;
+    }
+    same_bytes(&s[0..n], p)
+}
+
+// Whether the name at `at` is a given byte string, byte by byte. It reads no further than the first byte that differs, so a long name costs
+// nothing where a short one is asked for.
+fn name_from(t: &[u8], at: usize, s: &[u8]) -> bool
+    ensures { λ r. ⌜ r ≡ same (nameAt (now (t .entry)) at) (now (s .entry)) ⌝ }
+{
+    let mut i: usize = 0;
+    let mut j = at;
+    while i < s.len() {
+        if j >= t.len() {
+            return false;
+        }
+        if t[j] == 0 {
+            return false;
+        }
+        if t[j] != s[i] {
+            return false;
+        }
+        i += 1;
+        j += 1;
+    }
+    if j >= t.len() {
+        return true;
+    }
+    t[j] == 0
+}
+
+// Whether a table has another byte where the last one of a string would stand, were the string at `at`. The labels of an object begin alike and end apart, so this
+// is asked before they are compared.
+pub fn ends_apart(t: &[u8], at: usize, s: &[u8]) -> bool
+    ensures { λ r. ⌜ r ≡ endsApart (now (t .entry)) at (now (s .entry)) ⌝ }
+{
+    let n = s.len();
+    if n == 0 {
+        return false;
+    }
+    if at >= t.len() {
+        return false;
+    }
+    if t.len() - at < n {
+        return false;
+    }
+    t[at + (n - 1)] != s[n - 1]
+}
+
+// Whether the name at `at` is a given byte string.
+pub fn name_is(t: &[u8], at: usize, s: &[u8]) -> bool
+    ensures { λ r. ⌜ r ≡ same (nameAt (now (t .entry)) at) (now (s .entry)) ⌝ }
+{
+    if ends_apart(t, at, s) {
+        return false;
+    }
+    name_from(t, at, s)
+}
+
+// Whether no byte is over 127.
+pub fn is_ascii(s: &[u8]) -> bool
+    ensures { λ r. ⌜ r ≡ ascii (now (s .entry)) ⌝ }
+{
+    let mut i: usize = 0;
+    while i < s.len() {
+        if s[i] > 127 {
+            return false;
+        }
+        i += 1;
+    }
+    true
+}

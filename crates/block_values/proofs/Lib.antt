@@ -1,2 +1,0 @@
-pub mod BlockValues
-pub mod DummyLines

@@ -1,0 +1,98 @@
+-- What a line of a block file holds: its key, and where it has a label a size and an align8. Assumes nothing.
+use Prim.Native.Nat.{ℕ, _+_, _*_, _≤_, _<_}
+use mathlib.Core.Path.{_≡_, sym, ap, _∙_}
+use mathlib.Core.Bool.{true}
+use mathlib.Core.List.{List}
+use native.Mathlib.Omega.{arith}
+use lib.ListN.{length}
+use lib.Dec.{ltb}
+use borrow.Author.Tests.{ltb-true}
+use Rattle.base_scope.specs.Codes.{LINES, lineCode, lineBlock}
+use Rattle.base_scope.specs.Limits.{NUMBER_LIMIT, ALIGN8_LIMIT}
+use Rattle.base_text.specs.Decimals.{decimal}
+use Rattle.blocks_values.specs.Values.{every, isDigit, labelIn, sizeIn, alignIn, lineSound}
+use Rattle.blocks_values.proofs.Values.{Parts, section-span, sound-span}
+use Rattle.blocks_lines.specs.Keys.{isKeyLine, valueAt}
+use Rattle.blocks_lines.proofs.Keys.{repeats-low}
+use Rattle.blocks_file.specs.Blocks.{groupAt, blockAt, blockCount}
+use Rattle.blocks_file.specs.Table.{Parsed, groupIn}
+use Rattle.blocks_file.proofs.Blocks.{counted-key, counted-section}
+use Rattle.blocks_file.proofs.Table.{group-in}
+use Rattle.blocks_places.specs.Lines.{lineCount, spanValue, labelled, spanLabel, spanSize, spanAlign8}
+
+module _ (B : List ℕ) where
+  -- the line of a span is one of its key
+  pub span-key : (j a : ℕ) → a ≡ groupAt B (blockAt B (lineBlock j)) (lineCode j) → j < lineCount B → isKeyLine B (lineCode j) a ≡ true
+  span-key j a start h =
+      let k : lineCode j < LINES + 1 = omega arith in
+      rw start (counted-key B (lineBlock j) (lineCode j) (omega arith) (omega arith) (repeats-low (lineCode j) k))
+
+  pub value-read : (j a : ℕ) → a ≡ groupAt B (blockAt B (lineBlock j)) (lineCode j) → valueAt B (lineCode j) a ≡ spanValue B j
+  unfolding spanValue
+  value-read j a start = rw start
+
+  -- where it starts, from the table of blocks: i and k are its block and its code
+  module _ (table : List ℕ) (p : Parsed B table) (j i k a : ℕ) (h : j < lineCount B) (block : i ≡ lineBlock j) (code : k ≡ lineCode j) (read : a ≡ groupIn table i k) where
+    pub line-start : a ≡ groupAt B (blockAt B (lineBlock j)) (lineCode j)
+    line-start = read ∙ rw (block, code) (group-in B table p (lineBlock j) (lineCode j) (omega arith) (omega arith))
+
+    pub line-key : isKeyLine B k a ≡ true
+    line-key = rw code (span-key j a line-start h)
+
+    pub line-value : (v : List ℕ) → v ≡ valueAt B k a → v ≡ spanValue B j
+    line-value v e = e ∙ rw code (value-read j a line-start)
+
+  pub span-section : (j : ℕ) → j < lineCount B → lineSound (spanValue B j) ≡ true
+  unfolding spanValue
+  span-section j h =
+      counted-section B (lineBlock j) (lineCode j) (omega arith) (omega arith) (omega arith)
+
+  pub labelled-long : (j : ℕ) → labelled B j ≡ true → 0 < length (spanValue B j)
+  unfolding labelled
+  labelled-long j t = ltb-true _ _ t
+
+  pub labelled-read : (j : ℕ) (v : List ℕ) → v ≡ spanValue B j → ltb 0 (length v) ≡ labelled B j
+  unfolding labelled
+  labelled-read j v e = rw e
+
+  -- a line with a label has a size and an align8
+  pub span-parts : (j : ℕ) → j < lineCount B → labelled B j ≡ true → Parts (spanValue B j)
+  span-parts j h t =
+      let v = spanValue B j in
+      let l : 0 < length v = labelled-long j t in
+      sound-span v (sym (section-span v (λ e. absurd (omega arith))) ∙ span-section j h)
+
+  pub span-size-limit : (j : ℕ) → j < lineCount B → labelled B j ≡ true → spanSize B j ≤ NUMBER_LIMIT
+  unfolding spanSize
+  span-size-limit j h t = span-parts j h t .size-limit
+
+  pub span-align-limit : (j : ℕ) → j < lineCount B → labelled B j ≡ true → spanAlign8 B j ≤ ALIGN8_LIMIT
+  unfolding spanAlign8
+  span-align-limit j h t = span-parts j h t .align-limit
+
+  -- its digits in hand
+  module _ (j : ℕ) (h : j < lineCount B) (t : labelled B j ≡ true) (v d : List ℕ) (is : v ≡ spanValue B j) where
+    pub size-digits : d ≡ sizeIn v → (length d ≤ 7) × (every isDigit d ≡ true)
+    size-digits e = let p = span-parts j h t in rw (e, is) (p .size-length, p .size-digits)
+
+    pub align-digits : d ≡ alignIn v → (length d ≤ 7) × (every isDigit d ≡ true)
+    align-digits e =
+        let p = span-parts j h t in
+        let m : length (alignIn (spanValue B j)) ≤ 7 = omega (arith, p .align-length) in
+        rw (e, is) (m, p .align-digits)
+
+    pub size-read : (n : ℕ) → d ≡ sizeIn v → n ≡ decimal d → (n ≡ spanSize B j) × (n ≤ NUMBER_LIMIT)
+    unfolding spanSize
+    size-read n e q =
+        let x : n ≡ decimal (sizeIn (spanValue B j)) = rw (← is, ← e) q in
+        (x, rw x (span-parts j h t .size-limit))
+
+    pub align-read : (n : ℕ) → d ≡ alignIn v → n ≡ decimal d → (n ≡ spanAlign8 B j) × (n ≤ ALIGN8_LIMIT)
+    unfolding spanAlign8
+    align-read n e q =
+        let x : n ≡ decimal (alignIn (spanValue B j)) = rw (← is, ← e) q in
+        (x, rw x (span-parts j h t .align-limit))
+
+  pub label-read : (j : ℕ) (v l : List ℕ) → v ≡ spanValue B j → l ≡ labelIn v → l ≡ spanLabel B j
+  unfolding spanLabel
+  label-read j v l e f = f ∙ ap labelIn e

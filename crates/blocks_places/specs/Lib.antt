@@ -1,0 +1,4 @@
+pub mod Lines
+pub mod Places
+pub mod Faults
+pub mod Table

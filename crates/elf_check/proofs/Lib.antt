@@ -1,0 +1,4 @@
+pub mod Object
+pub mod Sound
+pub mod Order
+pub mod Views

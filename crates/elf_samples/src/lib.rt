@@ -1,0 +1,1 @@
+// Small objects on which definitions are computed (specs/Samples.antt). No code.

@@ -1,0 +1,126 @@
+// The symbols of an object: the first SYMTAB, its entries and names, and the first symbol of a name. Each equals its definition in specs/.
+ghost use mathlib.Core.Path.{_≡_};
+ghost use Prim.Native.Nat.{_-_, _≤_, _<_};
+ghost use lib.ListN.{length, take, drop};
+ghost use Rattle.elf_readers.specs.Readers.{sectionCount};
+ghost use Rattle.elf_readers.specs.Bounds.{Headed};
+ghost use Rattle.elf_symbols.specs.Symbols.{isSymtab, symtab, symbolCount, symbolPlace, symbol, symbolTable, symbolName, isSymbolNamed, symbolNamed, Tabled, Table, Entries};
+use base_fields::ByteOrder;
+use elf_records::SymbolEntry;
+
+// Whether section i is a symbol table.
+fn is_symtab(order: ByteOrder, file: &[u8], i: usize) -> bool
+    requires { ⌜ Headed order (now file) × (i < sectionCount order (now file)) ⌝ }
+    ensures { λ r. ⌜ r ≡ isSymtab order (now (file .entry)) i ⌝ }
+{
+    let h = elf_readers::section_at(order, file, i);
+    h.sh_type == base_scope::SHT_SYMTAB
+}
+
+// The first symbol table, or the section count.
+pub fn symtab_index(order: ByteOrder, file: &[u8]) -> usize
+    requires { ⌜ Headed order (now file) ⌝ }
+    ensures { λ r. ⌜ r ≡ symtab order (now (file .entry)) ⌝ }
+{
+    let n = elf_readers::section_count(order, file);
+    let mut i: usize = 0;
+    while i < n {
+        if is_symtab(order, file, i) {
+            return i;
+        }
+        i += 1;
+    }
+    n
+}
+
+// A symbol table in hand: where its entries start in the file, how many there are, and from where to where their strings lie.
+pub struct SymbolTable {
+    pub at: usize,
+    pub count: usize,
+    pub names: usize,
+    pub end: usize,
+}
+
+// The symbol table of an object.
+pub fn symbol_table(order: ByteOrder, file: &[u8]) -> SymbolTable
+    requires { ⌜ Tabled order (now file) ⌝ }
+    ensures { λ r. ⌜ r ≡ symbolTable order (now (file .entry)) ⌝ }
+{
+    let i = symtab_index(order, file);
+    let h = elf_readers::section_at(order, file, i);
+    let s = elf_readers::section_at(order, file, h.sh_link as usize);
+    let names = s.sh_offset as usize;
+    SymbolTable {
+        at: h.sh_offset as usize,
+        count: h.sh_size as usize / SymbolEntry::SIZE,
+        names,
+        end: names + s.sh_size as usize,
+    }
+}
+
+// The strings of a symbol table, as a part of the file.
+pub fn strings_of<'a>(file: &'a [u8], table: SymbolTable) -> &'a [u8]
+    requires { ⌜ (table .names ≤ table .end) × (table .end ≤ length (now file)) ⌝ }
+    ensures { λ r. ⌜ now r ≡ take (table .end - table .names) (drop (table .names) (now (file .entry))) ⌝ }
+{
+    let from = table.names;
+    let to = table.end;
+    &file[from..to]
+}
+
+// Symbol k; `at` is where the table starts.
+pub fn symbol_at(order: ByteOrder, file: &[u8], at: usize, k: usize) -> SymbolEntry
+    requires { ⌜ Tabled order (now file) × (at ≡ symbolPlace order (now file) 0) × (k < symbolCount order (now file)) ⌝ }
+    ensures { λ r. ⌜ r ≡ symbol order (now (file .entry)) k ⌝ }
+{
+    SymbolEntry::new(order, file, at + SymbolEntry::SIZE * k)
+}
+
+// The name of symbol k, as a part of the strings.
+pub fn symbol_name<'a>(
+    order: ByteOrder,
+    file: &[u8],
+    at: usize,
+    strings: &'a [u8],
+    k: usize,
+) -> &'a [u8]
+    requires { ⌜ Entries order (now file) at (now strings) × (k < symbolCount order (now file)) ⌝ }
+    ensures { λ r. ⌜ now r ≡ symbolName order (now (file .entry)) k ⌝ }
+{
+    let s = symbol_at(order, file, at, k);
+    base_names::name_at(strings, s.st_name as usize)
+}
+
+// Whether symbol k has a name.
+fn is_symbol_named(
+    order: ByteOrder,
+    file: &[u8],
+    at: usize,
+    strings: &[u8],
+    name: &[u8],
+    k: usize,
+) -> bool
+    requires { ⌜ Entries order (now file) at (now strings) × (k < symbolCount order (now file)) ⌝ }
+    ensures { λ r. ⌜ r ≡ isSymbolNamed order (now (file .entry)) (now (name .entry)) k ⌝ }
+{
+    let s = symbol_at(order, file, at, k);
+    base_names::name_is(strings, s.st_name as usize, name)
+}
+
+// The first symbol of a name, or the symbol count.
+pub fn symbol_named(order: ByteOrder, file: &[u8], table: SymbolTable, name: &[u8]) -> usize
+    requires { ⌜ Table order (now file) table ⌝ }
+    ensures { λ r. ⌜ r ≡ symbolNamed order (now (file .entry)) (now (name .entry)) ⌝ }
+{
+    let strings = strings_of(file, table);
+    let at = table.at;
+    let n = table.count;
+    let mut k: usize = 0;
+    while k < n {
+        if is_symbol_named(order, file, at, strings, name, k) {
+            return k;
+        }
+        k += 1;
+    }
+    n
+}

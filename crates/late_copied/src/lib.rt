@@ -1,1 +1,0 @@
-// The late step after block copying, from the one over C's own .rodata (proofs/Copied.antt), and the addend laws (proofs/Addends.antt). No code.

@@ -1,0 +1,5 @@
+pub mod Moves
+pub mod Moved
+pub mod Agree
+pub mod Idle
+pub mod Examples

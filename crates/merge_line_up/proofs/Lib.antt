@@ -1,0 +1,2 @@
+pub mod LineUp
+pub mod Agrees

@@ -1,0 +1,3 @@
+pub mod LineUp
+pub mod Answer
+pub mod Agrees

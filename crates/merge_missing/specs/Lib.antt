@@ -1,0 +1,3 @@
+pub mod Missing
+pub mod Ends
+pub mod Complete

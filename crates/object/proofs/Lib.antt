@@ -1,3 +1,0 @@
-pub mod Object
-pub mod Sound
-pub mod Order

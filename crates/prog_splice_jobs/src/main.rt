@@ -1,0 +1,137 @@
+// Replays a list of jobs through the stages of the merge up to the late step, and prints the answer of each: `job K accepted LENGTH`, the bytes written over C's
+// .text, .data, .rodata and .reginfo, and LF; or `job K refused NUMBER OBJECT PLACE`. A job is nine lengths, four bytes each, the most significant first, and then
+// bytes: of the compiled object, the assembled object and the block file; of the bytes that follow, which are those of the three files up to zeros at their end;
+// of the output and of the four working buffers. The list is the file that the first argument names.
+ghost use Prim.Native.Nat.{_≤_};
+use libc::STDOUT_FILENO;
+
+// The length at `at` of a job's lengths, cut to that of a buffer.
+fn lent(head: &[u8], at: usize, most: usize) -> usize
+    ensures { λ r. ⌜ r ≤ most ⌝ }
+{
+    let n = prog_cases::length_at(head, at);
+    if n > most {
+        return most;
+    }
+    n
+}
+
+fn blocks_room() -> [u8; base_scope::BLOCK_TABLE] {
+    [0u8; base_scope::BLOCK_TABLE]
+}
+
+fn places_room() -> [u8; base_scope::PLACE_TABLE] {
+    [0u8; base_scope::PLACE_TABLE]
+}
+
+fn late_room() -> [u8; base_scope::LATE_TABLE] {
+    [0u8; base_scope::LATE_TABLE]
+}
+
+fn rows_room() -> [u8; base_scope::SPAN_TABLE] {
+    [0u8; base_scope::SPAN_TABLE]
+}
+
+fn print_accepted(out: &[u8], length: u64) {
+    io::write_all(STDOUT_FILENO, b"accepted ");
+    io::print_decimal(STDOUT_FILENO, length);
+    io::write_all(STDOUT_FILENO, b"\n");
+    prog_cases::print_front(out, length);
+    io::write_all(STDOUT_FILENO, b"\n");
+}
+
+fn splice_parts(head: &[u8], compiled: &[u8], assembled: &[u8], blocks: &[u8], out: &mut [u8]) {
+    let mut table = blocks_room();
+    let mut places = places_room();
+    let mut late = late_room();
+    let mut rows = rows_room();
+    let t = lent(head, 20, table.len());
+    let p = lent(head, 24, places.len());
+    let l = lent(head, 28, late.len());
+    let w = lent(head, 32, rows.len());
+    let r = merge_stages::splice(
+        compiled,
+        assembled,
+        blocks,
+        out,
+        &mut table[0..t],
+        &mut places[0..p],
+        &mut late[0..l],
+        &mut rows[0..w],
+    );
+    if r.number == 0 {
+        print_accepted(out, r.length);
+    } else {
+        prog_cases::print_refusal(r);
+    }
+}
+
+// Runs a job whose parts end at a, b and e of the bytes read.
+fn run_parts(head: &[u8], job: &[u8], a: usize, b: usize, e: usize, out: &mut [u8]) {
+    if a > b {
+        return;
+    }
+    if b > e {
+        return;
+    }
+    if e > job.len() {
+        return;
+    }
+    let size = lent(head, 16, out.len());
+    splice_parts(head, &job[0..a], &job[a..b], &job[b..e], &mut out[0..size]);
+}
+
+// Reads a job and runs it; false at the end of the list.
+fn run_job(fd: i32, job: &mut [u8], out: &mut [u8]) -> bool {
+    let mut head = [0u8; 36];
+    let got = io::read_full(fd, &mut head);
+    if got < 36 {
+        return false;
+    }
+    let a = prog_cases::length_at(&head, 0);
+    let b = a + prog_cases::length_at(&head, 4);
+    let e = b + prog_cases::length_at(&head, 8);
+    if e > job.len() {
+        return false;
+    }
+    let stored = lent(&head, 12, e);
+    let n = io::read_full(fd, &mut job[0..stored]);
+    if n < stored {
+        return false;
+    }
+    run_parts(&head, job, a, b, e, out);
+    true
+}
+
+fn run_numbered(fd: i32, k: u64) -> bool {
+    io::write_all(STDOUT_FILENO, b"job ");
+    io::print_decimal(STDOUT_FILENO, k);
+    io::write_all(STDOUT_FILENO, b" ");
+    let mut job = prog_cases::room();
+    let mut out = prog_cases::room();
+    run_job(fd, &mut job, &mut out)
+}
+
+fn run_all(fd: i32) {
+    let mut k: u64 = 0;
+    while k < 1000000 {
+        if run_numbered(fd, k) {
+            k += 1;
+        } else {
+            io::write_all(STDOUT_FILENO, b"is not there\n");
+            return;
+        }
+    }
+}
+
+fn main() {
+    let mut name = io::buffer();
+    let n = os::arg(1, &mut name);
+    let fd = os::open_read(&name[..n]);
+    if fd < 0 {
+        os::fail(&name[..n]);
+        return;
+    }
+    run_all(fd);
+    libc::close(fd);
+}
