@@ -13,7 +13,7 @@ import sys
 
 HOME = os.path.join(os.path.dirname(os.path.abspath(__file__)), "..")
 PICTURE = os.path.join(HOME, "docs", "house.svg")
-SUBJECTS = ["base", "elf", "blocks", "open", "draft", "copy", "late", "statics", "merge", "d3", "prog"]
+SUBJECTS = ["base", "elf", "blocks", "open", "draft", "copy", "late", "statics", "merge", "symbols", "d3", "prog"]
 PROGRAMS = {"draft", "check_objects"}
 
 

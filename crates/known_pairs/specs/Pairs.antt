@@ -24,7 +24,7 @@ use Rattle.statics_walk.specs.Walk.{staticsFault, statics}
 use Rattle.symbols_merge.specs.Candidates.{Candidates}
 use Rattle.symbols_merge.specs.Listed.{symbolsVerdict}
 use Rattle.symbols_merge.specs.Merged.{mergedCount, localCount, mergedAt}
-use Rattle.symbols_ids.specs.Ids.{candidates}
+use Rattle.symbols_ids.specs.Ids.{mergeCandidates}
 use Rattle.known_pairs.specs.Jobs.{alignFour, alignEight, searched, padded, twoDummies, oneDummy, unplaced, lateWords, symbolicHeader, twiceInProc, onceInFile, oneSymbol, fourSymbols, fooAt}
 
 -- the working names of an object's statics in mode 1
@@ -33,7 +33,7 @@ staticNames C = map (workingName C) (statics Big C MODE_LOCAL 0)
 
 -- the symbols of two objects without blocks and statics, and the names of the first n symbols of the result behind entry 0
 abbrev symbolsOf : List ℕ → List ℕ → Candidates
-symbolsOf C A = candidates Big C A [] [] 0 []
+symbolsOf C A = mergeCandidates Big C A [] [] 0 []
 
 abbrev resultNames : Candidates → ℕ → List (List ℕ)
 resultNames s n = select (λ k. true) (λ k. s .name (mergedAt s (k + 1))) n

@@ -10,7 +10,7 @@ use Rattle.elf_records.specs.declared.symbol.SymbolEntry.{SymbolEntry}
 use Rattle.elf_samples.specs.Samples.{symbolObject}
 use Rattle.blocks_places.specs.Places.{Place, nowhere}
 use Rattle.symbols_ids.specs.Entries.{finished, latePlace, isPlacedA, sectionA, valueA, isGlabelA, typeA, sizeA, entryA}
-use Rattle.symbols_ids.specs.Ids.{firstA, firstStatic, byOrigin, mergedStatics, entryStatic, nameOf, entryOf}
+use Rattle.symbols_ids.specs.Ids.{firstA, firstStatic, byOrigin, entryStatic, nameOf, entryOf}
 use Rattle.symbols_ids.proofs.Everything.{everything}
 
 abbrev C : List ℕ
@@ -26,20 +26,20 @@ abbrev places : List Place
 places = record { taken = true; at = 8 } ∷ nowhere ∷ nowhere ∷ nowhere ∷ []
 
 -- ids 0 and 1 are C's, 2 and 3 A's
-pub third-name : nameOf Big C A places file 0 [] 3 ≡ text "foo"
-unfolding everything nameOf byOrigin firstA firstStatic mergedStatics
+pub third-name : nameOf Big C A [] 3 ≡ text "foo"
+unfolding everything nameOf byOrigin firstA firstStatic
 third-name = refl
 
 -- foo: its name moves behind C's 20 bytes of strings, its type is 2, its size 4, and two bits of st_other stay
 pub third-entry : entryOf Big C A places file 0 [] 3
     ≡ record { «st_name» = 33; «st_value» = 8; «st_size» = 4; «st_info» = 0x12; «st_other» = 3; «st_shndx» = 1 }
-unfolding everything entryOf nameOf byOrigin firstA firstStatic mergedStatics entryStatic finished entryA sectionA valueA isPlacedA isGlabelA typeA sizeA latePlace
+unfolding everything entryOf nameOf byOrigin firstA firstStatic entryStatic finished entryA sectionA valueA isPlacedA isGlabelA typeA sizeA latePlace
 third-entry = refl
 
 -- g as it was
 pub first-entry : entryOf Big C A places file 0 [] 1
     ≡ record { «st_name» = 9; «st_value» = 4; «st_size» = 0; «st_info» = 0x10; «st_other» = 0; «st_shndx» = 1 }
-unfolding everything entryOf nameOf byOrigin firstA firstStatic mergedStatics entryStatic finished entryA sectionA valueA isPlacedA isGlabelA typeA sizeA latePlace
+unfolding everything entryOf nameOf byOrigin firstA firstStatic entryStatic finished entryA sectionA valueA isPlacedA isGlabelA typeA sizeA latePlace
 first-entry = refl
 
 -- `_gp_disp` of type 0 gets type 1

@@ -34,28 +34,30 @@ module _ (o : ByteOrder) (C A : List ℕ) where
   unfoldable pub byOrigin : {X : Type 0} → (ℕ → X) → (ℕ → X) → (ℕ → X) → ℕ → X
   byOrigin ofC ofA ofStatic i = pickOne (ltb i firstA) (ofC i) (pickOne (ltb i firstStatic) (ofA (i - firstA)) (ofStatic (i - firstStatic)))
 
-module _ (o : ByteOrder) (C A : List ℕ) (P : List Place) (B : List ℕ) (mode : ℕ) (path : List ℕ) where
-  unfoldable pub mergedStatics : List Static
-  mergedStatics = statics o C mode (length (nameHead mode path))
+-- S are the statics
+unfoldable pub nameOf : ByteOrder → List ℕ → List ℕ → List Static → ℕ → List ℕ
+nameOf o C A S i = byOrigin o C A (symbolName o C) (symbolName o A) (λ k. workingName C (nth S k)) i
 
+module _ (o : ByteOrder) (C A : List ℕ) (P : List Place) (B : List ℕ) (mode : ℕ) (S : List Static) where
   -- the statics' names stand behind C's strings and A's
   unfoldable pub entryStatic : ℕ → SymbolEntry
-  entryStatic k = staticSymbol o C mode (length (symbolStrings o C) + length (symbolStrings o A)) (nth mergedStatics k)
-
-  unfoldable pub nameOf : ℕ → List ℕ
-  nameOf i = byOrigin o C A (symbolName o C) (symbolName o A) (λ k. workingName C (nth mergedStatics k)) i
+  entryStatic k = staticSymbol o C mode (length (symbolStrings o C) + length (symbolStrings o A)) (nth S k)
 
   -- the entry of id i
   unfoldable pub entryOf : ℕ → SymbolEntry
-  entryOf i = finished (nameOf i) (byOrigin o C A (symbol o C) (entryA o C A P B) entryStatic i)
+  entryOf i = finished (nameOf o C A S i) (byOrigin o C A (symbol o C) (entryA o C A P B) entryStatic i)
 
   -- statics are all taken
   unfoldable pub candidates : Candidates
   candidates = record {
-    many = firstStatic o C A + length mergedStatics;
+    many = firstStatic o C A + length S;
     taken = byOrigin o C A (isTakenC o C) (isTakenA o A) (λ k. true);
-    name = nameOf;
+    name = nameOf o C A S;
     section = λ i. entryOf i .«st_shndx»;
     value = λ i. entryOf i .«st_value»;
     binding = λ i. bindingOf (entryOf i .«st_info»);
   }
+
+-- the candidates of a merge in a mode: its statics are those of C
+unfoldable pub mergeCandidates : ByteOrder → List ℕ → List ℕ → List Place → List ℕ → ℕ → List ℕ → Candidates
+mergeCandidates o C A P B mode path = candidates o C A P B mode (statics o C mode (length (nameHead mode path)))
