@@ -1,0 +1,71 @@
+-- After b turns the first b buckets are empty, and no hash has changed. Assumes nothing.
+use Rattle.base_index.specs.Index.{BUCKETS, Emptied}
+use Rattle.base_index.proofs.Chains.{room-same, empty-none, empty-next}
+use borrow.Author.Needs.{needs}
+use native.Mathlib.Omega.{arith}
+use Prim.Native.Nat.{_-_, _≤_}
+use mathlib.Core.Path.{_≡_, refl, _∙_}
+use lib.ListN.{length}
+use denote.Ref.{now}
+use Rattle.base_index.proofs.empty_heads.Statement.{statement}
+use Rattle.base_index.proofs.empty_heads.Tie as tie
+
+abbrev Inv-loop : tie.InvT-loop
+Inv-loop table₀ cap n b₀ table b = (b ≤ BUCKETS) × (length table ≡ length table₀) × Emptied cap n b table₀ table
+
+abbrev μ-loop : tie.MeasureT-loop
+μ-loop table₀ cap n b₀ table b = BUCKETS - b
+
+loop-holds : tie.Need-loop-holds Inv-loop μ-loop
+loop-holds c = (omega arith, refl, empty-none _ _ _)
+
+head-place-requires : tie.Need-head-place-requires Inv-loop μ-loop
+head-place-requires c κs = search needs
+
+cast-write32 : tie.Need-cast-write32 Inv-loop μ-loop
+cast-write32 c = search needs
+
+write32-requires : tie.Need-write32-requires Inv-loop μ-loop
+write32-requires c κs = search needs
+
+add-b : tie.Need-add-b Inv-loop μ-loop
+add-b c = search needs
+
+loop-less : tie.Need-loop-less Inv-loop μ-loop
+loop-less c = search needs
+
+loop-again : tie.Need-loop-again Inv-loop μ-loop
+loop-again c =
+    let s = c .before .before .before .before .before .before .before .before in
+    let l = c .before .before .before .before .before .before .loop in
+    let w = c .before .before .write32 in
+    let r = room-same (s .args .cap) (now (s .args .table)) (l .table) (l .inv .1) (s .pre .0) in (
+      omega arith,
+      w .kept .1 .0 ∙ l .inv .1,
+      empty-next (s .args .cap) (s .args .n) (l .b) _ (now (s .args .table)) (l .table) _ r (omega arith) (c .before .before .before .head-place .ensures) (w .ensures) (l .inv .2),
+    )
+
+same-length : tie.Need-same-length Inv-loop μ-loop
+same-length c = search needs
+
+returns : tie.Need-returns Inv-loop μ-loop
+returns c =
+    let l = c .before .loop in
+    let e : l .b ≡ BUCKETS = omega arith in
+    rw e at (l .inv .2)
+
+pub empty-heads-spec : {M : Type 1} → statement M
+empty-heads-spec =
+    tie.close
+    (tie.spec
+    Inv-loop
+    μ-loop
+    loop-holds
+    head-place-requires
+    cast-write32
+    write32-requires
+    add-b
+    loop-less
+    loop-again
+    same-length
+    returns)

@@ -1,0 +1,86 @@
+-- Of the code, not of document 01: an index of items by a hash each, in one table. A bucket has the items whose hashes agree modulo BUCKETS; for each bucket the table has
+-- its first item, and for each item the next one of its bucket. Hashes decide no answer: they only say which items a search may pass over.
+use Prim.Native.Nat.{ℕ, _+_, _*_, _%_, _^_, _≤_, _<_}
+use mathlib.Core.Path.{_≡_}
+use mathlib.Core.Bool.{Bool}
+use mathlib.Core.List.{List, [], _∷_}
+use lib.ListN.{length, take}
+use lib.Dec.{eqb}
+use Rattle.base_lists.specs.Ranges.{first}
+use Rattle.base_lists.specs.Windows.{spliced}
+use Rattle.base_fields.specs.declared.ByteOrder.the-variants.{Big}
+use Rattle.base_fields.specs.Numbers.{number, encoded}
+
+abbrev pub BUCKETS : ℕ
+BUCKETS = 4096
+
+-- the most items that an index holds
+abbrev pub ITEM_LIMIT : ℕ
+ITEM_LIMIT = 12288
+
+-- how many bytes of a string take part in its hash: strings that share their storage may be long
+abbrev pub HASH_BYTES : ℕ
+HASH_BYTES = 256
+
+-- a hash with one more byte, and with a string behind it
+abbrev pub mixedByte : ℕ → ℕ → ℕ
+mixedByte h x = (h * 31 + x) % 2 ^ 32
+
+unfoldable pub mixed : ℕ → List ℕ → ℕ
+mixed h [] = h
+mixed h (x ∷ s) = mixed (mixedByte h x) s
+
+unfoldable pub hashOf : List ℕ → ℕ
+hashOf s = mixed 0 (take HASH_BYTES s)
+
+abbrev pub bucketOf : ℕ → ℕ
+bucketOf h = h % BUCKETS
+
+-- the layout of a table for `capacity` items, a word for each: their hashes, their nexts, then the heads of the buckets
+abbrev pub hashPlace : ℕ → ℕ
+hashPlace k = 4 * k
+
+abbrev pub nextPlace : ℕ → ℕ → ℕ
+nextPlace capacity k = 4 * capacity + 4 * k
+
+abbrev pub headPlace : ℕ → ℕ → ℕ
+headPlace capacity b = 8 * capacity + 4 * b
+
+pub record Room (capacity : ℕ) (T : List ℕ) : Type 0 where
+  pub few : capacity ≤ ITEM_LIMIT
+  pub long : 8 * capacity + 4 * BUCKETS ≤ length T
+
+unfoldable pub hashIn : List ℕ → ℕ → ℕ
+hashIn T k = number Big 4 T (hashPlace k)
+
+unfoldable pub nextIn : ℕ → List ℕ → ℕ → ℕ
+nextIn capacity T k = number Big 4 T (nextPlace capacity k)
+
+unfoldable pub headIn : ℕ → List ℕ → ℕ → ℕ
+headIn capacity T b = number Big 4 T (headPlace capacity b)
+
+-- item k is in bucket b
+unfoldable pub inBucket : List ℕ → ℕ → ℕ → Bool
+inBucket T b k = eqb (bucketOf (hashIn T k)) b
+
+-- n items are indexed: n itself stands where a bucket has no item, or none any more
+pub record Indexed (capacity : ℕ) (T : List ℕ) (n : ℕ) : Type 0 where
+  pub room : Room capacity T
+  pub many : n ≤ capacity
+  pub head : (b : ℕ) → b < BUCKETS → headIn capacity T b ≡ first (inBucket T b) 0 n
+  pub next : (k : ℕ) → k < n → nextIn capacity T k ≡ first (inBucket T (bucketOf (hashIn T k))) (k + 1) n
+
+-- what building the index of n items leaves
+pub record Built (capacity n : ℕ) (before after : List ℕ) : Type 0 where
+  pub indexed : Indexed capacity after n
+  pub kept : (k : ℕ) → k < n → hashIn after k ≡ hashIn before k
+
+-- the turns of building: the first i buckets are empty, no hash has changed
+pub record Emptied (capacity n i : ℕ) (before after : List ℕ) : Type 0 where
+  pub kept : (k : ℕ) → k < capacity → hashIn after k ≡ hashIn before k
+  pub head : (b : ℕ) → b < i → headIn capacity after b ≡ n
+
+-- item j goes to the front of its bucket
+unfoldable pub linked : ℕ → List ℕ → ℕ → List ℕ
+linked capacity T j =
+    spliced (spliced T (nextPlace capacity j) (encoded Big 4 (headIn capacity T (bucketOf (hashIn T j))))) (headPlace capacity (bucketOf (hashIn T j))) (encoded Big 4 j)

@@ -1,0 +1,149 @@
+// An index of items by a hash each, in a lent table: the first item that passes a test which implies a hash is found among the few of the hash's bucket. A caller puts
+// a hash for each item, builds, and walks from `head_of` on by `next_of`; proofs/Index.antt has the laws of that walk. Definitions and layout: specs/Index.antt.
+ghost use mathlib.Core.Path.{_≡_};
+ghost use Prim.Native.Nat.{min, _+_, _*_, _^_, _≤_, _<_};
+ghost use lib.ListN.{length, take};
+ghost use Rattle.base_lists.specs.Windows.{spliced};
+ghost use Rattle.base_fields.specs.declared.ByteOrder.the-variants.{Big};
+ghost use Rattle.base_fields.specs.Numbers.{encoded};
+ghost use Rattle.base_index.specs.Index.{BUCKETS, ITEM_LIMIT, mixedByte, mixed, hashOf, bucketOf, hashPlace, nextPlace, headPlace, Room, hashIn, nextIn, headIn, Built, Emptied, linked};
+use base_fields::ByteOrder;
+
+pub const BUCKETS: usize = 4096;
+
+// How many bytes of a string take part in its hash.
+pub const HASH_BYTES: usize = 256;
+
+// A hash with one more byte.
+fn mix(h: u32, b: u8) -> u32
+    ensures { λ r. ⌜ r ≡ mixedByte h b ⌝ }
+{
+    ((h as u64 * 31 + b as u64) % 4294967296) as u32
+}
+
+// The lesser of two lengths.
+fn shorter(a: usize, b: usize) -> usize
+    ensures { λ r. ⌜ r ≡ min a b ⌝ }
+{
+    if a < b {
+        return a;
+    }
+    b
+}
+
+// A hash with the first `room` bytes of a string behind it: a string in parts is hashed part by part (proofs/Hashes.antt, `hash-parts`).
+pub fn hash_on(h: u32, s: &[u8], room: usize) -> u32
+    ensures { λ r. ⌜ r ≡ mixed h (take room (now (s .entry))) ⌝ }
+{
+    let end = shorter(room, s.len());
+    let mut g = h;
+    let mut i: usize = 0;
+    while i < end {
+        g = mix(g, s[i]);
+        i += 1;
+    }
+    g
+}
+
+// The hash of a string.
+pub fn hash_of(s: &[u8]) -> u32
+    ensures { λ r. ⌜ r ≡ hashOf (now (s .entry)) ⌝ }
+{
+    hash_on(0, s, HASH_BYTES)
+}
+
+// The bucket of a hash.
+fn bucket_of(h: u32) -> usize
+    ensures { λ r. ⌜ (r ≡ bucketOf h) × (r < BUCKETS) ⌝ }
+{
+    h as usize % BUCKETS
+}
+
+// Where the next of item k stands.
+fn next_place(cap: usize, k: usize) -> usize
+    requires { ⌜ (cap ≤ ITEM_LIMIT) × (k < cap) ⌝ }
+    ensures { λ r. ⌜ r ≡ nextPlace cap k ⌝ }
+{
+    4 * cap + 4 * k
+}
+
+// Where the head of bucket b stands.
+fn head_place(cap: usize, b: usize) -> usize
+    requires { ⌜ (cap ≤ ITEM_LIMIT) × (b < BUCKETS) ⌝ }
+    ensures { λ r. ⌜ r ≡ headPlace cap b ⌝ }
+{
+    8 * cap + 4 * b
+}
+
+// Puts the hash of item k.
+pub fn put_hash(table: &mut [u8], k: usize, h: u32)
+    requires { ⌜ hashPlace k + 4 ≤ length (now table) ⌝ }
+    ensures { λ _. ⌜ now (table .exit) ≡ spliced (now (table .entry)) (hashPlace k) (encoded Big 4 h) ⌝ }
+{
+    base_fields::write32(ByteOrder::Big, table, 4 * k, h);
+}
+
+// The hash of item k.
+pub fn hash_at(table: &[u8], k: usize) -> u32
+    requires { ⌜ hashPlace k + 4 ≤ length (now table) ⌝ }
+    ensures { λ r. ⌜ r ≡ hashIn (now (table .entry)) k ⌝ }
+{
+    base_fields::read32(ByteOrder::Big, table, 4 * k)
+}
+
+// The first item of a hash's bucket.
+pub fn head_of(table: &[u8], cap: usize, h: u32) -> usize
+    requires { ⌜ Room cap (now table) ⌝ }
+    ensures { λ r. ⌜ (r ≡ headIn cap (now (table .entry)) (bucketOf h)) × (r < 2 ^ 32) ⌝ }
+{
+    base_fields::read32(ByteOrder::Big, table, head_place(cap, bucket_of(h))) as usize
+}
+
+// The next item of item k's bucket.
+pub fn next_of(table: &[u8], cap: usize, k: usize) -> usize
+    requires { ⌜ Room cap (now table) × (k < cap) ⌝ }
+    ensures { λ r. ⌜ (r ≡ nextIn cap (now (table .entry)) k) × (r < 2 ^ 32) ⌝ }
+{
+    base_fields::read32(ByteOrder::Big, table, next_place(cap, k)) as usize
+}
+
+// Empties every bucket of an index of n items.
+fn empty_heads(table: &mut [u8], cap: usize, n: usize)
+    requires { ⌜ Room cap (now table) × (n ≤ cap) ⌝ }
+    ensures { λ _. ⌜ Emptied cap n BUCKETS (now (table .entry)) (now (table .exit)) ⌝ }
+{
+    let mut b: usize = 0;
+    while b < BUCKETS {
+        base_fields::write32(ByteOrder::Big, table, head_place(cap, b), n as u32);
+        b += 1;
+    }
+}
+
+// Puts item j in front of its bucket.
+fn link(table: &mut [u8], cap: usize, j: usize)
+    requires { ⌜ Room cap (now table) × (j < cap) ⌝ }
+    ensures { λ _. ⌜ now (table .exit) ≡ linked cap (now (table .entry)) j ⌝ }
+{
+    let h = hash_at(table, j);
+    let next = head_of(table, cap, h) as u32;
+    base_fields::write32(ByteOrder::Big, table, next_place(cap, j), next);
+    base_fields::write32(
+        ByteOrder::Big,
+        table,
+        head_place(cap, bucket_of(h)),
+        j as u32,
+    );
+}
+
+// Builds the index of the first n items from their hashes: from the last item to the first, so that each bucket comes in order.
+pub fn build(table: &mut [u8], cap: usize, n: usize)
+    requires { ⌜ Room cap (now table) × (n ≤ cap) ⌝ }
+    ensures { λ _. ⌜ Built cap n (now (table .entry)) (now (table .exit)) ⌝ }
+{
+    empty_heads(table, cap, n);
+    let mut j = n;
+    while 0 < j {
+        j -= 1;
+        link(table, cap, j);
+    }
+}

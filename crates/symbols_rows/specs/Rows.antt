@@ -1,0 +1,98 @@
+-- Of the code, not of document 01: the tables of the symbol merge. T has a row of four words for each id: what it is, its section, its value, and the hash of its working
+-- name; L has a word for each position of the list: its id; H has a word for each position: the position that holds its name.
+use Prim.Native.Nat.{ℕ, _+_, _*_, _/_, _%_, _≤_, _<_}
+use mathlib.Core.Path.{_≡_}
+use mathlib.Core.Bool.{Bool, true, cond, not, _&&_, _||_}
+use mathlib.Core.List.{List}
+use lib.ListN.{length}
+use lib.Dec.{eqb}
+use Rattle.base_lists.specs.Ranges.{select}
+use Rattle.base_fields.specs.declared.ByteOrder.the-variants.{Big}
+use Rattle.base_fields.specs.Numbers.{number}
+use Rattle.base_scope.specs.Elf.{SHN_UNDEF, STB_LOCAL}
+use Rattle.base_scope.specs.Limits.{SYMBOL_LIMIT, STATIC_LIMIT}
+use Rattle.symbols_merge.specs.Candidates.{Candidates, isUnnamed, isGpDisp}
+use Rattle.symbols_merge.specs.Listed.{listed, holderOf}
+
+-- C's and A's symbols and the statics
+abbrev pub ID_LIMIT : ℕ
+ID_LIMIT = SYMBOL_LIMIT + SYMBOL_LIMIT + STATIC_LIMIT
+
+abbrev pub ID_ROW : ℕ
+ID_ROW = 16
+
+-- what an id is, as one word: whether it is taken, unnamed, `_gp_disp`, and its binding
+unfoldable pub kindWord : Bool → Bool → Bool → ℕ → ℕ
+kindWord taken unnamed gp binding = cond taken 1 0 + cond unnamed 2 0 + cond gp 4 0 + 8 * binding
+
+module _ (T : List ℕ) where
+  unfoldable pub idKind : ℕ → ℕ
+  idKind i = number Big 4 T (ID_ROW * i)
+
+  unfoldable pub idTaken : ℕ → Bool
+  idTaken i = eqb (idKind i % 2) 1
+
+  unfoldable pub idUnnamed : ℕ → Bool
+  idUnnamed i = eqb (idKind i / 2 % 2) 1
+
+  unfoldable pub idGpDisp : ℕ → Bool
+  idGpDisp i = eqb (idKind i / 4 % 2) 1
+
+  unfoldable pub idBinding : ℕ → ℕ
+  idBinding i = idKind i / 8
+
+  unfoldable pub idSection : ℕ → ℕ
+  idSection i = number Big 4 T (ID_ROW * i + 4)
+
+  unfoldable pub idValue : ℕ → ℕ
+  idValue i = number Big 4 T (ID_ROW * i + 8)
+
+  unfoldable pub idHash : ℕ → ℕ
+  idHash i = number Big 4 T (ID_ROW * i + 12)
+
+  -- the candidates that n rows tell of; their names stand elsewhere
+  unfoldable pub candidatesIn : ℕ → (ℕ → List ℕ) → Candidates
+  candidatesIn n name = record { many = n; taken = idTaken; name = name; section = idSection; value = idValue; binding = idBinding }
+
+  -- n rows in hand, of these names
+  pub record RowsOf (n : ℕ) (name : ℕ → List ℕ) : Type 0 where
+    pub few : n ≤ ID_LIMIT
+    pub long : ID_ROW * n ≤ length T
+    pub unnamed : (i : ℕ) → i < n → idUnnamed i ≡ isUnnamed (candidatesIn n name) i
+    pub gpDisp : (i : ℕ) → i < n → idGpDisp i ≡ isGpDisp (candidatesIn n name) i
+
+-- word p of a table of words, and its first m words
+unfoldable pub wordIn : List ℕ → ℕ → ℕ
+wordIn L p = number Big 4 L (4 * p)
+
+unfoldable pub wordsIn : List ℕ → ℕ → List ℕ
+wordsIn L m = select (λ p. true) (wordIn L) m
+
+-- the list in hand: m positions
+pub record ListOf (s : Candidates) (L : List ℕ) (m : ℕ) : Type 0 where
+  pub long : 4 * m ≤ length L
+  pub is : wordsIn L m ≡ listed s
+
+-- the holders in hand
+pub record HoldersOf (s : Candidates) (H : List ℕ) (m : ℕ) : Type 0 where
+  pub long : 4 * m ≤ length H
+  pub is : (p : ℕ) → p < m → wordIn H p ≡ holderOf s p
+
+-- at position p, by the tables
+module _ (T L : List ℕ) where
+  -- 18
+  unfoldable pub looseIn : ℕ → Bool
+  looseIn p =
+      (eqb (idBinding T (wordIn L p)) STB_LOCAL && eqb (idSection T (wordIn L p)) SHN_UNDEF)
+      || (idUnnamed T (wordIn L p) && not (eqb (idBinding T (wordIn L p)) STB_LOCAL))
+
+  -- the group in the result
+  unfoldable pub resultGroupIn : ℕ → ℕ
+  resultGroupIn p = cond (eqb (idBinding T (wordIn L p)) STB_LOCAL) 0 2 + cond (idGpDisp T (wordIn L p)) 1 0
+
+  module _ (H : List ℕ) where
+    -- 19
+    unfoldable pub elsewhereIn : ℕ → Bool
+    elsewhereIn p =
+        not (eqb (idSection T (wordIn L p)) SHN_UNDEF)
+        && not (eqb (idSection T (wordIn L p)) (idSection T (wordIn L (wordIn H p))) && eqb (idValue T (wordIn L p)) (idValue T (wordIn L (wordIn H p))))
