@@ -1,0 +1,276 @@
+// The working names of ids, read from both objects and the table of statics. A working name is a stored name, which is a part of an object, and for a static above
+// level 1 `:` and its count; it stands nowhere in one piece, so it is read and compared by its two parts. Each function equals its definition: `nameOf` in the crate
+// symbols_ids, specs/Ids.antt, and its parts in specs/Names.antt. Document 01, "Symbols" and "Statics".
+ghost use mathlib.Core.Path.{_≡_};
+ghost use mathlib.Core.List.{_++_};
+ghost use Prim.Native.Nat.{_+_, _*_, _%_, _≤_, _<_};
+ghost use lib.ListN.{length, getD};
+ghost use lib.Dec.{eqb};
+ghost use Rattle.base_lists.specs.Strings.{same};
+ghost use Rattle.base_scope.specs.Limits.{SYMBOL_LIMIT, STATIC_LIMIT};
+ghost use Rattle.base_scope.specs.Text.{text};
+ghost use Rattle.elf_symbols.specs.Symbols.{symbolCount, symbol, Table};
+ghost use Rattle.statics_table.specs.Statics.{countTail};
+ghost use Rattle.statics_table.specs.Table.{staticsIn};
+ghost use Rattle.symbols_ids.specs.Ids.{nameOf};
+ghost use Rattle.symbols_names.specs.Names.{firstIn, storedOf, nameCountIn, withoutLast, RowsHeld, SourcesRead};
+use base_fields::ByteOrder;
+use base_names::Owner;
+use elf_symbols::SymbolTable;
+use statics_table::Static;
+
+// What is in hand to read names: both symbol tables, and how many rows the table of statics has.
+pub struct Sources {
+    pub compiled: SymbolTable,
+    pub assembled: SymbolTable,
+    pub statics: usize,
+}
+
+// The id of the first static.
+fn first_static(sources: Sources) -> usize
+    requires { ⌜ firstIn sources ≤ 2 * SYMBOL_LIMIT ⌝ }
+    ensures { λ r. ⌜ r ≡ firstIn sources ⌝ }
+{
+    let own = sources.compiled;
+    let other = sources.assembled;
+    own.count + other.count
+}
+
+// Where the name of symbol k starts in the object's strings.
+fn name_start(order: ByteOrder, file: &[u8], table: SymbolTable, k: usize) -> usize
+    requires { ⌜ Table order (now file) table × (k < symbolCount order (now file)) ⌝ }
+    ensures { λ r. ⌜ r ≡ symbol order (now (file .entry)) k .«st_name» ⌝ }
+{
+    let at = table.at;
+    let s = elf_symbols::symbol_at(order, file, at, k);
+    s.st_name as usize
+}
+
+// The name of a symbol of the compiled or the assembled object, as a part of that object's strings.
+fn symbol_name<'a>(
+    order: ByteOrder,
+    compiled: &'a [u8],
+    assembled: &'a [u8],
+    statics: &[u8],
+    sources: Sources,
+    id: usize,
+) -> &'a [u8]
+    requires { ⌜ SourcesRead order (now compiled) (now assembled) (now statics) sources × (id < firstIn sources) ⌝ }
+    ensures { λ r. ⌜ now r ≡ storedOf order (now (compiled .entry)) (now (assembled .entry)) (staticsIn (now (statics .entry)) (sources .statics)) id ⌝ }
+{
+    let own = sources.compiled;
+    let other = sources.assembled;
+    let c = elf_symbols::strings_of(compiled, own);
+    let a = elf_symbols::strings_of(assembled, other);
+    let first = own.count;
+    if id < first {
+        let at = name_start(order, compiled, own, id);
+        return base_names::name_of(c, a, Owner::Compiled, at);
+    }
+    let at = name_start(order, assembled, other, id - first);
+    base_names::name_of(c, a, Owner::Assembled, at)
+}
+
+// The stored name of an id: the whole name of a symbol, and of a static what stands before its count.
+pub fn stored_name<'a>(
+    order: ByteOrder,
+    compiled: &'a [u8],
+    assembled: &'a [u8],
+    statics: &[u8],
+    sources: Sources,
+    id: usize,
+) -> &'a [u8]
+    requires { ⌜ SourcesRead order (now compiled) (now assembled) (now statics) sources × (id < firstIn sources + sources .statics) ⌝ }
+    ensures { λ r. ⌜ now r ≡ storedOf order (now (compiled .entry)) (now (assembled .entry)) (staticsIn (now (statics .entry)) (sources .statics)) id ⌝ }
+{
+    let first = first_static(sources);
+    if id < first {
+        return symbol_name(order, compiled, assembled, statics, sources, id);
+    }
+    let s = Static::read(statics, id - first);
+    base_names::name_at(compiled, s.start as usize)
+}
+
+// The count behind the stored name of an id; 0 where there is none.
+pub fn name_count(statics: &[u8], sources: Sources, id: usize) -> u32
+    requires { ⌜ RowsHeld (now statics) sources × (id < firstIn sources + sources .statics) ⌝ }
+    ensures { λ r. ⌜ r ≡ nameCountIn (now (statics .entry)) sources id ⌝ }
+{
+    let first = first_static(sources);
+    if id < first {
+        return 0;
+    }
+    let s = Static::read(statics, id - first);
+    s.number
+}
+
+// The last digit of a number without its last `low` digits.
+fn digit_before(number: u32, low: usize) -> u8
+    ensures { λ r. ⌜ r ≡ 48 + withoutLast low number % 10 ⌝ }
+{
+    let mut n = number;
+    let mut k = low;
+    while k > 0 {
+        n = n / 10;
+        k -= 1;
+    }
+    (48 + n % 10) as u8
+}
+
+// Byte i of `:` and a count.
+pub fn tail_byte(number: u32, i: usize) -> u8
+    requires { ⌜ (number ≤ STATIC_LIMIT) × (i < length (countTail number)) ⌝ }
+    ensures { λ r. ⌜ r ≡ getD (countTail number) i 0 ⌝ }
+{
+    if i == 0 {
+        return b':';
+    }
+    let n = statics_table::tail_length(number) as usize;
+    digit_before(number, n - 1 - i)
+}
+
+// How many bytes a stored name and the tail of a count have.
+fn joined_length(stored: &[u8], number: u32) -> usize
+    requires { ⌜ number ≤ STATIC_LIMIT ⌝ }
+    ensures { λ r. ⌜ r ≡ length (now (stored .entry) ++ countTail number) ⌝ }
+{
+    let n = statics_table::tail_length(number) as usize;
+    stored.len() + n
+}
+
+// Byte i of a stored name and the tail of a count.
+fn joined_byte(stored: &[u8], number: u32, i: usize) -> u8
+    requires { ⌜ (number ≤ STATIC_LIMIT) × (i < length (now stored ++ countTail number)) ⌝ }
+    ensures { λ r. ⌜ r ≡ getD (now (stored .entry) ++ countTail number) i 0 ⌝ }
+{
+    let n = stored.len();
+    if i < n {
+        return stored[i];
+    }
+    tail_byte(number, i - n)
+}
+
+// Whether two stored names with the tails of their counts have one byte at i.
+fn is_same_byte(a: &[u8], m: u32, b: &[u8], n: u32, i: usize) -> bool
+    requires { ⌜ (m ≤ STATIC_LIMIT) × (n ≤ STATIC_LIMIT) × (i < length (now a ++ countTail m)) × (i < length (now b ++ countTail n)) ⌝ }
+    ensures { λ r. ⌜ r ≡ eqb (getD (now (a .entry) ++ countTail m) i 0) (getD (now (b .entry) ++ countTail n) i 0) ⌝ }
+{
+    let x = joined_byte(a, m, i);
+    let y = joined_byte(b, n, i);
+    x == y
+}
+
+// Whether two stored names with the tails of their counts are equal, byte by byte: a static `n` with count 1 beside a symbol that is named `n:1`.
+fn is_joined_same(a: &[u8], m: u32, b: &[u8], n: u32) -> bool
+    requires { ⌜ (m ≤ STATIC_LIMIT) × (n ≤ STATIC_LIMIT) ⌝ }
+    ensures { λ r. ⌜ r ≡ same (now (a .entry) ++ countTail m) (now (b .entry) ++ countTail n) ⌝ }
+{
+    let long = joined_length(a, m);
+    let other = joined_length(b, n);
+    if long != other {
+        return false;
+    }
+    let mut i: usize = 0;
+    while i < long {
+        if is_same_byte(a, m, b, n, i) {
+            i += 1;
+        } else {
+            return false;
+        }
+    }
+    true
+}
+
+// How many bytes the working name of an id has.
+pub fn name_length<'a>(
+    order: ByteOrder,
+    compiled: &'a [u8],
+    assembled: &'a [u8],
+    statics: &[u8],
+    sources: Sources,
+    id: usize,
+) -> usize
+    requires { ⌜ SourcesRead order (now compiled) (now assembled) (now statics) sources × (id < firstIn sources + sources .statics) ⌝ }
+    ensures { λ r. ⌜ r ≡ length (nameOf order (now (compiled .entry)) (now (assembled .entry)) (staticsIn (now (statics .entry)) (sources .statics)) id) ⌝ }
+{
+    let stored = stored_name(order, compiled, assembled, statics, sources, id);
+    let count = name_count(statics, sources, id);
+    joined_length(stored, count)
+}
+
+// Whether an id has no name.
+pub fn is_unnamed<'a>(
+    order: ByteOrder,
+    compiled: &'a [u8],
+    assembled: &'a [u8],
+    statics: &[u8],
+    sources: Sources,
+    id: usize,
+) -> bool
+    requires { ⌜ SourcesRead order (now compiled) (now assembled) (now statics) sources × (id < firstIn sources + sources .statics) ⌝ }
+    ensures { λ r. ⌜ r ≡ eqb (length (nameOf order (now (compiled .entry)) (now (assembled .entry)) (staticsIn (now (statics .entry)) (sources .statics)) id)) 0 ⌝ }
+{
+    let n = name_length(order, compiled, assembled, statics, sources, id);
+    n == 0
+}
+
+// Whether the working name of an id is `_gp_disp`; one with a count has a colon.
+pub fn is_gp_disp<'a>(
+    order: ByteOrder,
+    compiled: &'a [u8],
+    assembled: &'a [u8],
+    statics: &[u8],
+    sources: Sources,
+    id: usize,
+) -> bool
+    requires { ⌜ SourcesRead order (now compiled) (now assembled) (now statics) sources × (id < firstIn sources + sources .statics) ⌝ }
+    ensures { λ r. ⌜ r ≡ same (nameOf order (now (compiled .entry)) (now (assembled .entry)) (staticsIn (now (statics .entry)) (sources .statics)) id) (text "_gp_disp") ⌝ }
+{
+    let count = name_count(statics, sources, id);
+    if count != 0 {
+        return false;
+    }
+    let stored = stored_name(order, compiled, assembled, statics, sources, id);
+    base_names::same_bytes(stored, b"_gp_disp")
+}
+
+// Byte j of the working name of an id.
+pub fn name_byte<'a>(
+    order: ByteOrder,
+    compiled: &'a [u8],
+    assembled: &'a [u8],
+    statics: &[u8],
+    sources: Sources,
+    id: usize,
+    j: usize,
+) -> u8
+    requires { ⌜ SourcesRead order (now compiled) (now assembled) (now statics) sources × (id < firstIn sources + sources .statics) × (j < length (nameOf order (now compiled) (now assembled) (staticsIn (now statics) (sources .statics)) id)) ⌝ }
+    ensures { λ r. ⌜ r ≡ getD (nameOf order (now (compiled .entry)) (now (assembled .entry)) (staticsIn (now (statics .entry)) (sources .statics)) id) j 0 ⌝ }
+{
+    let stored = stored_name(order, compiled, assembled, statics, sources, id);
+    let count = name_count(statics, sources, id);
+    joined_byte(stored, count, j)
+}
+
+// Whether two ids have one working name. Behind equal counts the stored names decide.
+pub fn is_same_name<'a>(
+    order: ByteOrder,
+    compiled: &'a [u8],
+    assembled: &'a [u8],
+    statics: &[u8],
+    sources: Sources,
+    i: usize,
+    j: usize,
+) -> bool
+    requires { ⌜ SourcesRead order (now compiled) (now assembled) (now statics) sources × (i < firstIn sources + sources .statics) × (j < firstIn sources + sources .statics) ⌝ }
+    ensures { λ r. ⌜ r ≡ same (nameOf order (now (compiled .entry)) (now (assembled .entry)) (staticsIn (now (statics .entry)) (sources .statics)) i) (nameOf order (now (compiled .entry)) (now (assembled .entry)) (staticsIn (now (statics .entry)) (sources .statics)) j) ⌝ }
+{
+    let a = stored_name(order, compiled, assembled, statics, sources, i);
+    let b = stored_name(order, compiled, assembled, statics, sources, j);
+    let m = name_count(statics, sources, i);
+    let n = name_count(statics, sources, j);
+    if m == n {
+        return base_names::same_bytes(a, b);
+    }
+    is_joined_same(a, m, b, n)
+}
