@@ -1,0 +1,6 @@
+pub mod Marks
+pub mod Sections
+pub mod Symbols
+pub mod Faults
+pub mod InHand
+pub mod Passed

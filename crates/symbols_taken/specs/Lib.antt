@@ -1,2 +1,4 @@
 pub mod Used
 pub mod Taken
+pub mod Passed
+pub mod Code
