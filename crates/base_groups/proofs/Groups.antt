@@ -10,7 +10,7 @@ use lib.Seq.{getD-append-add}
 use lib.Dec.{eqb}
 use borrow.Author.Tests.{eqb-true, eq-eqb}
 use Rattle.base_lists.specs.Ranges.{count, gather, select}
-use Rattle.base_lists.proofs.Ranges.{by-lt, and-parts, and-true, gather-yes, gather-split, gather-append, gather-same, select-same, select-length, select-at, count-lt, count-hit}
+use Rattle.base_lists.proofs.Ranges.{by-lt, and-parts, and-true, gather-yes, gather-split, gather-append, gather-same, select-same, select-length, select-at, count-lt, count-hit, count-same}
 use Rattle.base_groups.specs.Groups.{inGroup, ofGroup, grouped, groupedPlace}
 
 module _ (keep : ℕ → Bool) (group : ℕ → ℕ) (n : ℕ) where
@@ -145,3 +145,17 @@ unfolding grouped ofGroup inGroup
 grouped-same keep keep' group group' n k e f =
     gather-same (λ g. true) (λ g. true) _ _ k (λ g h. refl)
     (λ g h t. select-same _ _ (λ i. i) (λ i. i) n (λ i l. rw (e i l, f i l)) (λ i l t. refl))
+
+same-in : (keep keep' : ℕ → Bool) (group group' : ℕ → ℕ) (n g j : ℕ) → keep j ≡ keep' j → group j ≡ group' j → inGroup keep group n g j ≡ inGroup keep' group' n g j
+unfolding inGroup
+same-in keep keep' group group' n g j e f = rw (e, f)
+
+-- and so is a place in it
+pub place-same : (keep keep' : ℕ → Bool) (group group' : ℕ → ℕ) (n i : ℕ) → i < n → ((i : ℕ) → i < n → keep i ≡ keep' i) → ((i : ℕ) → i < n → group i ≡ group' i)
+    → groupedPlace keep group n i ≡ groupedPlace keep' group' n i
+unfolding groupedPlace
+place-same keep keep' group group' n i h e f =
+    rw (grouped-same keep keep' group group' n (group i) e f, f i h, count-same (inGroup keep group n (group' i)) (inGroup keep' group' n (group' i)) i (λ j l. in-same j (omega arith)))
+  where
+    in-same : (j : ℕ) → j < n → inGroup keep group n (group' i) j ≡ inGroup keep' group' n (group' i) j
+    in-same j l = same-in keep keep' group group' n (group' i) j (e j l) (f j l)

@@ -1,3 +1,4 @@
 pub mod Names
 pub mod Merged
+pub mod Agree
 pub mod Examples
