@@ -10,7 +10,7 @@ use lib.Seq.{getD-append-add}
 use lib.Dec.{eqb}
 use borrow.Author.Tests.{eqb-true, eq-eqb}
 use Rattle.base_lists.specs.Ranges.{count, gather, select}
-use Rattle.base_lists.proofs.Ranges.{by-lt, and-parts, and-true, gather-yes, gather-split, gather-append, gather-same, select-same, select-length, select-at, count-lt, count-hit, count-same}
+use Rattle.base_lists.proofs.Ranges.{by-test, by-lt, and-parts, and-true, gather-yes, gather-split, gather-append, gather-same, select-same, select-length, select-at, count-lt, count-hit, count-same}
 use Rattle.base_groups.specs.Groups.{inGroup, ofGroup, grouped, groupedPlace}
 
 module _ (keep : ℕ → Bool) (group : ℕ → ℕ) (n : ℕ) where
@@ -138,24 +138,20 @@ module _ (keep : ℕ → Bool) (group : ℕ → ℕ) (n : ℕ) where
       let k = group i + group j + 1 in
       sym (grouped-at k i h a (omega arith)) ∙ (ap (λ (x : ℕ). getD (All k) x 0) e ∙ grouped-at k j l b (omega arith))
 
--- an order is decided by what is kept and by the groups of the indices below n
-pub grouped-same : (keep keep' : ℕ → Bool) (group group' : ℕ → ℕ) (n k : ℕ) → ((i : ℕ) → i < n → keep i ≡ keep' i) → ((i : ℕ) → i < n → group i ≡ group' i)
-    → grouped keep group n k ≡ grouped keep' group' n k
-unfolding grouped ofGroup inGroup
-grouped-same keep keep' group group' n k e f =
-    gather-same (λ g. true) (λ g. true) _ _ k (λ g h. refl)
-    (λ g h t. select-same _ _ (λ i. i) (λ i. i) n (λ i l. rw (e i l, f i l)) (λ i l t. refl))
+-- an order is decided by what is kept below n, and by the groups of that
+module _ (keep keep' : ℕ → Bool) (group group' : ℕ → ℕ) (n : ℕ) (kept : (i : ℕ) → i < n → keep i ≡ keep' i) (same : (i : ℕ) → i < n → keep i ≡ true → group i ≡ group' i) where
+  in-same : (g i : ℕ) → i < n → inGroup keep group n g i ≡ inGroup keep' group' n g i
+  unfolding inGroup
+  in-same g i h = by-test (keep i)
+      (λ t. rw (← kept i h, t, same i h t))
+      (λ f. rw (← kept i h, f))
 
-same-in : (keep keep' : ℕ → Bool) (group group' : ℕ → ℕ) (n g j : ℕ) → keep j ≡ keep' j → group j ≡ group' j → inGroup keep group n g j ≡ inGroup keep' group' n g j
-unfolding inGroup
-same-in keep keep' group group' n g j e f = rw (e, f)
+  pub grouped-same : (k : ℕ) → grouped keep group n k ≡ grouped keep' group' n k
+  unfolding grouped ofGroup
+  grouped-same k = gather-same (λ g. true) (λ g. true) _ _ k (λ g h. refl) (λ g h t. select-same _ _ (λ i. i) (λ i. i) n (λ i l. in-same g i l) (λ i l t. refl))
 
--- and so is a place in it
-pub place-same : (keep keep' : ℕ → Bool) (group group' : ℕ → ℕ) (n i : ℕ) → i < n → ((i : ℕ) → i < n → keep i ≡ keep' i) → ((i : ℕ) → i < n → group i ≡ group' i)
-    → groupedPlace keep group n i ≡ groupedPlace keep' group' n i
-unfolding groupedPlace
-place-same keep keep' group group' n i h e f =
-    rw (grouped-same keep keep' group group' n (group i) e f, f i h, count-same (inGroup keep group n (group' i)) (inGroup keep' group' n (group' i)) i (λ j l. in-same j (omega arith)))
-  where
-    in-same : (j : ℕ) → j < n → inGroup keep group n (group' i) j ≡ inGroup keep' group' n (group' i) j
-    in-same j l = same-in keep keep' group group' n (group' i) j (e j l) (f j l)
+  -- and so is the place of one that is kept
+  pub place-same : (i : ℕ) → i < n → keep i ≡ true → groupedPlace keep group n i ≡ groupedPlace keep' group' n i
+  unfolding groupedPlace
+  place-same i h t =
+      rw (same i h t, grouped-same (group' i), count-same (inGroup keep group n (group' i)) (inGroup keep' group' n (group' i)) i (λ j l. in-same (group' i) j (omega arith)))

@@ -1,5 +1,5 @@
--- Candidates that agree below their number have one list, one verdict, one result and one number each: so a stage that reads them from tables answers for those of two
--- objects. Assumes nothing.
+-- Candidates that agree on what is taken, and in all that is asked of it, have one list, one verdict, one result and one number each: so a stage that reads them from tables
+-- answers for those of two objects. Assumes nothing.
 use Prim.Native.Nat.{ℕ, _+_, _-_, _≤_, _<_}
 use mathlib.Core.Path.{_≡_, refl, sym, ap, _∙_}
 use mathlib.Core.Bool.{Bool, true, false, cond, not, _&&_, _||_}
@@ -21,44 +21,44 @@ use Rattle.symbols_merge.specs.Candidates.{Candidates, isDefined, isUnna
 use Rattle.symbols_merge.specs.Listed.{listGroup, listed, position, listedAt, isAlike, holderOf, isLoose, isElsewhere, symbolsVerdict}
 use Rattle.symbols_merge.specs.Merged.{RESULT-GROUPS, LOCAL-GROUPS, resultGroup, isMerged, groupAtPosition, merged, mergedCount, localCount, numberOf}
 use Rattle.symbols_merge.proofs.Names.{alike-parts}
-use Rattle.symbols_merge.proofs.Merged.{Taken, listed-taken, position-lt}
+use Rattle.symbols_merge.proofs.Merged.{Taken, listed-taken, position-lt, holder-merged}
 
 pub record Agree (s t : Candidates) : Type 0 where
   pub many : s .many ≡ t .many
   pub taken : (i : ℕ) → i < s .many → s .taken i ≡ t .taken i
-  pub name : (i : ℕ) → i < s .many → s .name i ≡ t .name i
-  pub section : (i : ℕ) → i < s .many → s .section i ≡ t .section i
-  pub value : (i : ℕ) → i < s .many → s .value i ≡ t .value i
-  pub binding : (i : ℕ) → i < s .many → s .binding i ≡ t .binding i
+  pub name : (i : ℕ) → i < s .many → s .taken i ≡ true → s .name i ≡ t .name i
+  pub section : (i : ℕ) → i < s .many → s .taken i ≡ true → s .section i ≡ t .section i
+  pub value : (i : ℕ) → i < s .many → s .taken i ≡ true → s .value i ≡ t .value i
+  pub binding : (i : ℕ) → i < s .many → s .taken i ≡ true → s .binding i ≡ t .binding i
 
 module _ (s t : Candidates) (a : Agree s t) where
   -- ---- one candidate
 
-  group-agree : (i : ℕ) → i < s .many → listGroup s i ≡ listGroup t i
+  group-agree : (i : ℕ) → i < s .many → s .taken i ≡ true → listGroup s i ≡ listGroup t i
   unfolding listGroup isDefined
-  group-agree i h = rw (a .section i h)
+  group-agree i h u = rw (a .section i h u)
 
-  defined-agree : (i : ℕ) → i < s .many → isDefined s i ≡ isDefined t i
+  defined-agree : (i : ℕ) → i < s .many → s .taken i ≡ true → isDefined s i ≡ isDefined t i
   unfolding isDefined
-  defined-agree i h = rw (a .section i h)
+  defined-agree i h u = rw (a .section i h u)
 
-  unnamed-agree : (i : ℕ) → i < s .many → isUnnamed s i ≡ isUnnamed t i
+  unnamed-agree : (i : ℕ) → i < s .many → s .taken i ≡ true → isUnnamed s i ≡ isUnnamed t i
   unfolding isUnnamed
-  unnamed-agree i h = rw (a .name i h)
+  unnamed-agree i h u = rw (a .name i h u)
 
-  local-agree : (i : ℕ) → i < s .many → isLocal s i ≡ isLocal t i
+  local-agree : (i : ℕ) → i < s .many → s .taken i ≡ true → isLocal s i ≡ isLocal t i
   unfolding isLocal
-  local-agree i h = rw (a .binding i h)
+  local-agree i h u = rw (a .binding i h u)
 
-  result-agree : (i : ℕ) → i < s .many → resultGroup s i ≡ resultGroup t i
+  result-agree : (i : ℕ) → i < s .many → s .taken i ≡ true → resultGroup s i ≡ resultGroup t i
   unfolding resultGroup isLocal isGpDisp
-  result-agree i h = rw (a .binding i h, a .name i h)
+  result-agree i h u = rw (a .binding i h u, a .name i h u)
 
   -- ---- the list
 
   pub listed-agree : listed s ≡ listed t
   unfolding listed
-  listed-agree = grouped-same (s .taken) (t .taken) (listGroup s) (listGroup t) (s .many) 2 (a .taken) group-agree
+  listed-agree = grouped-same (s .taken) (t .taken) (listGroup s) (listGroup t) (s .many) (a .taken) group-agree 2
       ∙ ap (λ (n : ℕ). grouped (t .taken) (listGroup t) n 2) (a .many)
 
   pub at-agree : (p : ℕ) → listedAt s p ≡ listedAt t p
@@ -71,12 +71,12 @@ module _ (s t : Candidates) (a : Agree s t) where
   long-agree : m ≡ length (listed t)
   long-agree = ap length listed-agree
 
-  in-list : (p : ℕ) → p < m → listedAt s p < s .many
-  in-list p h = listed-taken s p h .0
+  in-list : (p : ℕ) → p < m → Taken s (listedAt s p)
+  in-list p h = listed-taken s p h
 
-  pub position-agree : (i : ℕ) → i < s .many → position s i ≡ position t i
+  pub position-agree : (i : ℕ) → Taken s i → position s i ≡ position t i
   unfolding position
-  position-agree i h = place-same (s .taken) (t .taken) (listGroup s) (listGroup t) (s .many) i h (a .taken) group-agree
+  position-agree i u = place-same (s .taken) (t .taken) (listGroup s) (listGroup t) (s .many) (a .taken) group-agree i (u .0) (u .1)
       ∙ ap (λ (n : ℕ). groupedPlace (t .taken) (listGroup t) n i) (a .many)
 
   -- ---- holders
@@ -84,7 +84,9 @@ module _ (s t : Candidates) (a : Agree s t) where
   alike-agree : (p q : ℕ) → p < m → q < m → isAlike s p q ≡ isAlike t p q
   unfolding isAlike
   alike-agree p q h l =
-      rw (unnamed-agree (listedAt s p) (in-list p h), a .name (listedAt s p) (in-list p h), a .name (listedAt s q) (in-list q l), at-agree p, at-agree q)
+      let i = in-list p h in
+      let j = in-list q l in
+      rw (unnamed-agree (listedAt s p) (i .0) (i .1), a .name (listedAt s p) (i .0) (i .1), a .name (listedAt s q) (j .0) (j .1), at-agree p, at-agree q)
 
   pub holder-agree : (p : ℕ) → p < m → holderOf s p ≡ holderOf t p
   unfolding holderOf holder
@@ -94,16 +96,17 @@ module _ (s t : Candidates) (a : Agree s t) where
   unfolding isMerged isHolder holderOf
   merged-is p h = ap (λ (x : ℕ). eqb x p) (holder-agree p h)
 
-  place-group : (p : ℕ) → p < m → groupAtPosition s p ≡ groupAtPosition t p
+  place-group : (p : ℕ) → p < m → isMerged s p ≡ true → groupAtPosition s p ≡ groupAtPosition t p
   unfolding groupAtPosition
-  place-group p h = result-agree (listedAt s p) (in-list p h) ∙ ap (resultGroup t) (at-agree p)
+  place-group p h u = result-agree (listedAt s p) (in-list p h .0) (in-list p h .1) ∙ ap (resultGroup t) (at-agree p)
 
   -- ---- 18 and 19
 
   loose-agree : (p : ℕ) → p < m → isLoose s p ≡ isLoose t p
   unfolding isLoose
   loose-agree p h =
-      rw (local-agree (listedAt s p) (in-list p h), defined-agree (listedAt s p) (in-list p h), unnamed-agree (listedAt s p) (in-list p h), at-agree p)
+      let i = in-list p h in
+      rw (local-agree (listedAt s p) (i .0) (i .1), defined-agree (listedAt s p) (i .0) (i .1), unnamed-agree (listedAt s p) (i .0) (i .1), at-agree p)
 
   holder-low : (p : ℕ) → p < m → holderOf s p < m
   unfolding holderOf
@@ -115,11 +118,11 @@ module _ (s t : Candidates) (a : Agree s t) where
       let i = in-list p h in
       let j = in-list (holderOf s p) (holder-low p h) in
       rw (
-        defined-agree (listedAt s p) i,
-        a .section (listedAt s p) i,
-        a .value (listedAt s p) i,
-        a .section (listedAt s (holderOf s p)) j,
-        a .value (listedAt s (holderOf s p)) j,
+        defined-agree (listedAt s p) (i .0) (i .1),
+        a .section (listedAt s p) (i .0) (i .1),
+        a .value (listedAt s p) (i .0) (i .1),
+        a .section (listedAt s (holderOf s p)) (j .0) (j .1),
+        a .value (listedAt s (holderOf s p)) (j .0) (j .1),
         at-agree p,
         at-agree (holderOf s p),
         holder-agree p h,
@@ -133,7 +136,7 @@ module _ (s t : Candidates) (a : Agree s t) where
   -- ---- the result
 
   grouped-agree : (k : ℕ) → grouped (isMerged s) (groupAtPosition s) m k ≡ grouped (isMerged t) (groupAtPosition t) (length (listed t)) k
-  grouped-agree k = grouped-same (isMerged s) (isMerged t) (groupAtPosition s) (groupAtPosition t) m k merged-is place-group
+  grouped-agree k = grouped-same (isMerged s) (isMerged t) (groupAtPosition s) (groupAtPosition t) m merged-is place-group k
       ∙ ap (λ (n : ℕ). grouped (isMerged t) (groupAtPosition t) n k) long-agree
 
   pub merged-agree : merged s ≡ merged t
@@ -152,7 +155,7 @@ module _ (s t : Candidates) (a : Agree s t) where
   unfolding numberOf
   number-agree i u =
       let h : position s i < m = position-lt s i u in
-      let e : holderOf s (position s i) ≡ holderOf t (position t i) = holder-agree (position s i) h ∙ ap (holderOf t) (position-agree i (u .0)) in
-      ap (λ (x : ℕ). x + 1) (place-same (isMerged s) (isMerged t) (groupAtPosition s) (groupAtPosition t) m (holderOf s (position s i)) (holder-low (position s i) h) merged-is place-group
+      let e : holderOf s (position s i) ≡ holderOf t (position t i) = holder-agree (position s i) h ∙ ap (holderOf t) (position-agree i u) in
+      ap (λ (x : ℕ). x + 1) (place-same (isMerged s) (isMerged t) (groupAtPosition s) (groupAtPosition t) m merged-is place-group (holderOf s (position s i)) (holder-low (position s i) h) (holder-merged s i u)
       ∙ ap (λ (n : ℕ). groupedPlace (isMerged t) (groupAtPosition t) n (holderOf s (position s i))) long-agree
       ∙ ap (groupedPlace (isMerged t) (groupAtPosition t) (length (listed t))) e)

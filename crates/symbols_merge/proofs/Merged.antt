@@ -141,7 +141,7 @@ module _ (s : Candidates) where
       (λ a. by-test (isGpDisp s (listedAt s p)) (λ b. rw (a, b) (omega arith)) (λ b. rw (a, b) (omega arith)))
       (λ a. by-test (isGpDisp s (listedAt s p)) (λ b. rw (a, b) (omega arith)) (λ b. rw (a, b) (omega arith)))
 
-  holder-merged : (i : ℕ) → Taken i → isMerged s (holderOf s (position s i)) ≡ true
+  pub holder-merged : (i : ℕ) → Taken i → isMerged s (holderOf s (position s i)) ≡ true
   unfolding isMerged holderOf
   holder-merged i t = holder-holds (isAlike s) long (alike-parts s) (position s i) (position-lt i t)
 

@@ -1,0 +1,4 @@
+pub mod Rows
+pub mod Listing
+pub mod Faults
+pub mod Tables

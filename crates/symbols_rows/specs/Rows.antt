@@ -3,16 +3,18 @@
 use Prim.Native.Nat.{ℕ, _+_, _*_, _/_, _%_, _≤_, _<_}
 use mathlib.Core.Path.{_≡_}
 use mathlib.Core.Bool.{Bool, true, cond, not, _&&_, _||_}
-use mathlib.Core.List.{List}
+use mathlib.Core.List.{List, [], _∷_}
 use lib.ListN.{length}
 use lib.Dec.{eqb}
 use Rattle.base_lists.specs.Ranges.{select}
+use Rattle.base_lists.specs.Records.{flat}
 use Rattle.base_fields.specs.declared.ByteOrder.the-variants.{Big}
-use Rattle.base_fields.specs.Numbers.{number}
+use Rattle.base_fields.specs.Numbers.{number, encoded}
 use Rattle.base_scope.specs.Elf.{SHN_UNDEF, STB_LOCAL}
 use Rattle.base_scope.specs.Limits.{SYMBOL_LIMIT, STATIC_LIMIT}
 use Rattle.symbols_merge.specs.Candidates.{Candidates, isUnnamed, isGpDisp}
 use Rattle.symbols_merge.specs.Listed.{listed, holderOf}
+use Rattle.symbols_rows.specs.declared.IdRow.{IdRow}
 
 -- C's and A's symbols and the statics
 abbrev pub ID_LIMIT : ℕ
@@ -50,6 +52,18 @@ module _ (T : List ℕ) where
   unfoldable pub idHash : ℕ → ℕ
   idHash i = number Big 4 T (ID_ROW * i + 12)
 
+  -- row i
+  unfoldable pub idRow : ℕ → IdRow
+  idRow i = record {
+    taken = idTaken i;
+    unnamed = idUnnamed i;
+    «gp_disp» = idGpDisp i;
+    binding = idBinding i;
+    section = idSection i;
+    value = idValue i;
+    hash = idHash i;
+  }
+
   -- the candidates that n rows tell of; their names stand elsewhere
   unfoldable pub candidatesIn : ℕ → (ℕ → List ℕ) → Candidates
   candidatesIn n name = record { many = n; taken = idTaken; name = name; section = idSection; value = idValue; binding = idBinding }
@@ -60,6 +74,10 @@ module _ (T : List ℕ) where
     pub long : ID_ROW * n ≤ length T
     pub unnamed : (i : ℕ) → i < n → idUnnamed i ≡ isUnnamed (candidatesIn n name) i
     pub gpDisp : (i : ℕ) → i < n → idGpDisp i ≡ isGpDisp (candidatesIn n name) i
+
+-- the bytes of a row
+unfoldable pub idRowBytes : IdRow → List ℕ
+idRowBytes row = flat (encoded Big 4) (kindWord (row .taken) (row .unnamed) (row .«gp_disp») (row .binding) ∷ row .section ∷ row .value ∷ row .hash ∷ [])
 
 -- word p of a table of words, and its first m words
 unfoldable pub wordIn : List ℕ → ℕ → ℕ

@@ -1,0 +1,43 @@
+-- The three bits and the binding, added. Assumes nothing.
+use Rattle.symbols_rows.specs.Rows.{kindWord}
+use borrow.Author.Needs.{needs}
+use Rattle.symbols_rows.proofs.kind_word.Statement.{statement}
+use Rattle.symbols_rows.proofs.kind_word.Tie as tie
+
+flag-requires : tie.Need-flag-requires
+flag-requires c κs = search needs
+
+flag-requires-2 : tie.Need-flag-requires-2
+flag-requires-2 c κs = search needs
+
+add-result : tie.Need-add-result
+add-result c = search needs
+
+flag-requires-3 : tie.Need-flag-requires-3
+flag-requires-3 c κs = search needs
+
+add-result-2 : tie.Need-add-result-2
+add-result-2 c = search needs
+
+mul-result : tie.Need-mul-result
+mul-result c = search needs
+
+add-result-3 : tie.Need-add-result-3
+add-result-3 c = search needs
+
+returns : tie.Need-returns
+unfolding kindWord
+returns c = search needs
+
+pub kind-word-spec : {M : Type 1} → statement M
+kind-word-spec =
+    tie.close
+    (tie.spec
+    flag-requires
+    flag-requires-2
+    add-result
+    flag-requires-3
+    add-result-2
+    mul-result
+    add-result-3
+    returns)
