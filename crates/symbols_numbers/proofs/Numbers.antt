@@ -18,7 +18,7 @@ use Rattle.base_fields.specs.Numbers.{encoded}
 use Rattle.base_fields.proofs.Numbers.{big-4}
 use Rattle.base_groups.specs.Groups.{groupedPlace}
 use Rattle.symbols_rows.specs.Rows.{wordIn, resultGroupIn}
-use Rattle.symbols_numbers.specs.Numbers.{holdsIn, Tables, HoldersFirst, Room, NumberRoom, NumberedAt, numberOn, numberAt, numberBy, Numbered}
+use Rattle.symbols_numbers.specs.Numbers.{holdsIn, Tables, HoldersFirst, IdRoom, NumberRoom, NumberedAt, numberOn, numberAt, numberBy, IdsNumbered}
 use Rattle.symbols_numbers.proofs.Leaves.{self-holds, else-held, word-long, word-same, word-other}
 
 zero-at : (n i : ℕ) → i < n → getD (zeros n) i 0 ≡ 0
@@ -32,7 +32,7 @@ word-zero n i h =
     rw (big-4 (zeros n) (4 * i) l, zero-at n (4 * i) (omega arith), zero-at n (4 * i + 1) (omega arith), zero-at n (4 * i + 2) (omega arith), zero-at n (4 * i + 3) (omega arith))
 
 module _ (T L H : List ℕ) (m : ℕ) where
-  pub numbered-none : (n : ℕ) (N : List ℕ) → N ≡ zeros n → Numbered T L H m 0 N
+  pub numbered-none : (n : ℕ) (N : List ℕ) → N ≡ zeros n → IdsNumbered T L H m 0 N
   unfolding numberBy
   numbered-none n N e = record { word = λ i h. rw e (word-zero n i (rw (e, length-zeros n) at h)) }
 
@@ -61,7 +61,7 @@ module _ (T L H : List ℕ) (m : ℕ) where
     unfolding numberAt
     holder-number p h = rw (x .itself p h)
 
-    module _ (p place : ℕ) (N : List ℕ) (w : Numbered T L H m p N) (h : p < m) (r : Room L m N) (e : place ≡ groupedPlace (holdsIn H) (resultGroupIn T L) m p) where
+    module _ (p place : ℕ) (N : List ℕ) (w : IdsNumbered T L H m p N) (h : p < m) (r : IdRoom L m N) (e : place ≡ groupedPlace (holdsIn H) (resultGroupIn T L) m p) where
       own-number : wordIn H p ≡ p → place + 1 ≡ numberAt T L H m p
       unfolding numberAt
       own-number q = rw (q, e)
@@ -74,7 +74,7 @@ module _ (T L H : List ℕ) (m : ℕ) where
           let l : wordIn H p < p = omega (arith, x .early p h, else-held H p f) in
           rw f (w .word (wordIn L (wordIn H p)) (r .word (wordIn H p) (omega arith)) ∙ by-position (wordIn H p) p l (omega arith) ∙ holder-number p h))
 
-      pub numbered-next : (next : ℕ) (N' : List ℕ) → NumberedAt L H p place next N N' → Numbered T L H m (p + 1) N'
+      pub numbered-next : (next : ℕ) (N' : List ℕ) → NumberedAt L H p place next N N' → IdsNumbered T L H m (p + 1) N'
       numbered-next next N' n = record {
         word = λ i l.
             let f : 4 * wordIn L p + 4 ≤ length N = r .word p h in
@@ -90,14 +90,14 @@ module _ (T L H : List ℕ) (m : ℕ) where
       }
 
   -- the room that a turn needs
-  pub turn-room : (p : ℕ) (N : List ℕ) → Tables T L H m → HoldersFirst L H m → Room L m N → p < m → NumberRoom L H p N
+  pub turn-room : (p : ℕ) (N : List ℕ) → Tables T L H m → HoldersFirst L H m → IdRoom L m N → p < m → NumberRoom L H p N
   turn-room p N t x r h =
       let l : wordIn H p < m = omega (arith, x .early p h) in
       let d = t .held p h in
       record { position = d .own .inside; holder = d .inside; held = d .holder .inside; word = r .word p h; held-word = r .word (wordIn H p) l }
 
-  pub numbered-end : (p : ℕ) (N : List ℕ) → p ≤ m → m ≤ p → Numbered T L H m p N → Numbered T L H m m N
+  pub numbered-end : (p : ℕ) (N : List ℕ) → p ≤ m → m ≤ p → IdsNumbered T L H m p N → IdsNumbered T L H m m N
   numbered-end p N l u w = let e : p ≡ m = omega arith in rw e at w
 
-pub room-same : (L : List ℕ) (m : ℕ) (N N' : List ℕ) → length N' ≡ length N → Room L m N → Room L m N'
+pub room-same : (L : List ℕ) (m : ℕ) (N N' : List ℕ) → length N' ≡ length N → IdRoom L m N → IdRoom L m N'
 room-same L m N N' e r = record { word = λ p h. rw e (r .word p h) }

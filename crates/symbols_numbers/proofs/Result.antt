@@ -24,7 +24,7 @@ use Rattle.symbols_rows.specs.Rows.{idBinding, candidatesIn, RowsOf, wordIn, wo
 use Rattle.symbols_rows.proofs.Tables.{list-long, list-at, list-taken, holder-in, holders-of}
 use Rattle.symbols_numbers.specs.declared.NewSymbol.{NewSymbol}
 use Rattle.symbols_numbers.specs.declared.NewSymbol.the-variants.{Merged, Gone}
-use Rattle.symbols_numbers.specs.Numbers.{holdsIn, Tables, HoldersFirst, Room, orderIn, groupStarts, numberAt, numberBy, Numbered, newIn}
+use Rattle.symbols_numbers.specs.Numbers.{holdsIn, Tables, HoldersFirst, IdRoom, orderIn, groupStarts, numberAt, numberBy, IdsNumbered, newIn}
 use Rattle.symbols_numbers.specs.Result.{StartsOf, OrderOf, NumbersOf, newOf}
 use Rattle.symbols_numbers.proofs.Leaves.{holds-self, symbol-none, symbol-some, new-in, new-past}
 use Rattle.symbols_numbers.proofs.Counts.{grouped-few}
@@ -110,7 +110,7 @@ module _ (T L H : List ℕ) (n m : ℕ) (name : ℕ → List ℕ) where
       itself = λ p u. h .is (wordIn H p) (held-word p u) ∙ ap (holderOf s) (h .is p u) ∙ holder-itself s p (in-list p u) ∙ sym (h .is p u);
     }
 
-    pub room-in : (N : List ℕ) → 4 * n ≤ length N → Room L m N
+    pub room-in : (N : List ℕ) → 4 * n ≤ length N → IdRoom L m N
     room-in N u = record { word = λ p v. omega (arith, id-lt p v) }
 
     -- ---- the order
@@ -159,7 +159,7 @@ module _ (T L H : List ℕ) (n m : ℕ) (name : ℕ → List ℕ) where
     number-is : (i : ℕ) → i < s .many → numberBy T L H m i m ≡ cond (s .taken i) (numberOf s i) 0
     number-is i u = by-test (s .taken i) (λ t. rw t (number-taken i (u, t))) (λ f. rw f (number-left i f))
 
-    pub numbers-of : (N : List ℕ) → 4 * n ≤ length N → Numbered T L H m m N → NumbersOf s N
+    pub numbers-of : (N : List ℕ) → 4 * n ≤ length N → IdsNumbered T L H m m N → NumbersOf s N
     numbers-of N u w = record { long = rw many-is u; is = λ i v. w .word i (omega (arith, many-is)) ∙ number-is i v }
 
 -- ---- candidates that agree have one order and one number each

@@ -38,7 +38,7 @@ pub record HoldersFirst (L H : List ℕ) (m : ℕ) : Type 0 where
   pub itself : (p : ℕ) → p < m → wordIn H (wordIn H p) ≡ wordIn H p
 
 -- N has a word for the id of each of m positions
-pub record Room (L : List ℕ) (m : ℕ) (N : List ℕ) : Type 0 where
+pub record IdRoom (L : List ℕ) (m : ℕ) (N : List ℕ) : Type 0 where
   pub word : (p : ℕ) → p < m → 4 * wordIn L p + 4 ≤ length N
 
 -- how many of a group there are behind position p, if `before` come before it
@@ -94,7 +94,7 @@ module _ (T L H : List ℕ) (m : ℕ) where
   numberBy i (suc k) = cond (eqb (wordIn L k) i) (numberAt k) (numberBy i k)
 
   -- the words of N are the numbers of the ids by the first k positions
-  pub record Numbered (k : ℕ) (N : List ℕ) : Type 0 where
+  pub record IdsNumbered (k : ℕ) (N : List ℕ) : Type 0 where
     pub word : (i : ℕ) → 4 * i + 4 ≤ length N → wordIn N i ≡ numberBy i k
 
 -- the symbol of a number

@@ -7,7 +7,7 @@ ghost use lib.ListN.{length};
 ghost use Rattle.symbols_merge.specs.Merged.{RESULT-GROUPS, LOCAL-GROUPS};
 ghost use Rattle.symbols_rows.specs.Rows.{ID_LIMIT, wordIn, wordsIn, resultGroupIn};
 ghost use Rattle.symbols_rows.specs.Steps.{Position};
-ghost use Rattle.symbols_numbers.specs.Numbers.{bindingGroup, holdsIn, Tables, HoldersFirst, Room, countBehind, OrderedAt, numberOn, NumberRoom, NumberedAt, orderIn, groupCounts, groupStarts, Numbered, newSymbol, newIn};
+ghost use Rattle.symbols_numbers.specs.Numbers.{bindingGroup, holdsIn, Tables, HoldersFirst, IdRoom, countBehind, OrderedAt, numberOn, NumberRoom, NumberedAt, orderIn, groupCounts, groupStarts, IdsNumbered, newSymbol, newIn};
 use base_fields::ByteOrder;
 use base_packed::AssembledSymbol;
 use base_packed::CompiledSymbol;
@@ -181,8 +181,8 @@ pub fn number_ids(
     numbers: &mut [u8],
 )
     requires { ⌜ Tables (now rows) (now list) (now holders) m × HoldersFirst (now list) (now holders) m × (starts ≡ groupStarts (now rows) (now list) (now holders) m)
-        × Room (now list) m (now numbers) ⌝ }
-    ensures { λ _. ⌜ Numbered (now (rows .entry)) (now (list .entry)) (now (holders .entry)) m m (now (numbers .exit)) ⌝ }
+        × IdRoom (now list) m (now numbers) ⌝ }
+    ensures { λ _. ⌜ IdsNumbered (now (rows .entry)) (now (list .entry)) (now (holders .entry)) m m (now (numbers .exit)) ⌝ }
 {
     base_buffers::zero(numbers);
     let mut next = starts;

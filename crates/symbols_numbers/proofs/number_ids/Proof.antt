@@ -3,7 +3,7 @@ use Prim.Native.Nat.{_-_}
 use mathlib.Core.Path.{_≡_, refl, _∙_}
 use native.Mathlib.Omega.{arith}
 use lib.ListN.{length}
-use Rattle.symbols_numbers.specs.Numbers.{Numbered}
+use Rattle.symbols_numbers.specs.Numbers.{IdsNumbered}
 use Rattle.symbols_numbers.proofs.Counts.{Nexts, next-none, next-moved, next-at}
 use Rattle.symbols_numbers.proofs.Numbers.{room-same, numbered-none, numbered-next, numbered-end, turn-room}
 use borrow.Author.Needs.{needs}
@@ -11,7 +11,7 @@ use Rattle.symbols_numbers.proofs.number_ids.Statement.{statement}
 use Rattle.symbols_numbers.proofs.number_ids.Tie as tie
 
 abbrev Inv-loop : tie.InvT-loop
-Inv-loop rows list holders m numbers₀ next₀ p₀ numbers next p = (length numbers ≡ length numbers₀) × Nexts rows list holders m p next × Numbered rows list holders m p numbers
+Inv-loop rows list holders m numbers₀ next₀ p₀ numbers next p = (length numbers ≡ length numbers₀) × Nexts rows list holders m p next × IdsNumbered rows list holders m p numbers
 
 abbrev μ-loop : tie.MeasureT-loop
 μ-loop rows list holders m numbers₀ next₀ p₀ numbers next p = m - p
