@@ -1,0 +1,3 @@
+pub mod Holders
+pub mod Tables
+pub mod Hashes

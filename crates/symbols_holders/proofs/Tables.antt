@@ -1,0 +1,79 @@
+-- What one more word changes: it is there, and the words before it and all that stands behind it are as before. Assumes nothing.
+use Prim.Native.Nat.{ℕ, _+_, _*_, _≤_, _<_}
+use mathlib.Core.Path.{_≡_, refl, sym, ap, _∙_}
+use mathlib.Core.List.{List}
+use native.Mathlib.Omega.{arith}
+use lib.ListN.{length, drop}
+use lib.Seq.{drop-drop}
+use Rattle.base_lists.proofs.Ranges.{by-last}
+use Rattle.base_lists.proofs.Windows.{drop-spliced}
+use Rattle.base_fields.specs.declared.ByteOrder.the-variants.{Big}
+use Rattle.base_fields.specs.Numbers.{encoded}
+use Rattle.base_fields.proofs.Numbers.{length-encoded}
+use Rattle.base_index.specs.Index.{hashPlace, Built}
+use Rattle.base_index.proofs.Table.{withWord, word-long, word-same, word-other, hash-same, hash-other}
+use Rattle.symbols_merge.specs.Candidates.{Candidates}
+use Rattle.symbols_merge.specs.Listed.{holderOf}
+use Rattle.symbols_rows.specs.declared.IdRow.{IdRow}
+use Rattle.symbols_rows.specs.Rows.{ID_LIMIT, idHash, idRow, wordIn}
+use Rattle.symbols_rows.proofs.Rows.{row-fields}
+use Rattle.symbols_holders.specs.Ready.{Hashed, ListIndexed, NamesHeld}
+
+-- ---- hashes put
+
+-- what `put_hash` reads and writes, in its order: the row of the id at p, the word
+pub hash-put : (I J T L : List ℕ) (p : ℕ) (row : IdRow) → row ≡ idRow T (wordIn L p) → J ≡ withWord I (hashPlace p) (row .hash)
+    → J ≡ withWord I (hashPlace p) (idHash T (wordIn L p))
+hash-put I J T L p row is put = put ∙ ap (withWord I (hashPlace p)) (sym (row-fields T (wordIn L p) row (sym is) .hash))
+
+pub hashed-none : (T L I : List ℕ) → Hashed T L I 0
+hashed-none T L I = record { each = λ p l. absurd (omega arith) }
+
+pub hashed-next : (T L I J : List ℕ) (p : ℕ) → hashPlace p + 4 ≤ length I → J ≡ withWord I (hashPlace p) (idHash T (wordIn L p)) → Hashed T L I p → Hashed T L J (p + 1)
+hashed-next T L I J p fits e h = rw e (record {
+  each = λ k l. by-last k p (omega arith)
+      (λ d. hash-other I p (idHash T (wordIn L p)) fits k (λ q. absurd (omega arith)) ∙ h .each k d)
+      (λ q. rw q (hash-same I p (idHash T (wordIn L p)) fits));
+})
+
+-- building the index keeps the hashes
+pub list-indexed : (T L I J : List ℕ) (m : ℕ) → Hashed T L I m → Built ID_LIMIT m I J → ListIndexed T L J m
+list-indexed T L I J m h b = record { indexed = b .indexed; hashed = record { each = λ p l. b .kept p l ∙ h .each p l } }
+
+-- ---- holders put
+
+module _ (s : Candidates) where
+  pub names-none : (H : List ℕ) → NamesHeld s 0 H H
+  names-none H = record { held = record { long = omega arith; is = λ p l. absurd (omega arith) }; kept = refl }
+
+  module _ (G H J : List ℕ) (p : ℕ) (fits : 4 * p + 4 ≤ length H) (put : J ≡ withWord H (4 * p) (holderOf s p)) (n : NamesHeld s p G H) where
+    abbrev X : List ℕ
+    X = withWord H (4 * p) (holderOf s p)
+
+    holder-same : wordIn X p ≡ holderOf s p
+    unfolding wordIn
+    holder-same = word-same H (4 * p) (holderOf s p) fits
+
+    holder-other : (k : ℕ) → k < p → wordIn X k ≡ wordIn H k
+    unfolding wordIn
+    holder-other k l = word-other H (4 * p) (holderOf s p) fits (4 * k) (omega arith)
+
+    further : (K : List ℕ) → drop (4 * (p + 1)) K ≡ drop 4 (drop (4 * p) K)
+    further K =
+        let e : 4 * (p + 1) ≡ 4 * p + 4 = omega arith in
+        ap (λ (x : ℕ). drop x K) e ∙ sym (drop-drop 4 (4 * p) K)
+
+    behind : drop (4 * (p + 1)) X ≡ drop (4 * (p + 1)) H
+    behind =
+        let w = encoded Big 4 (holderOf s p) in
+        let e : 4 * p + length w ≡ 4 * (p + 1) = omega (arith, length-encoded Big 4 (holderOf s p)) in
+        rw (← e) (drop-spliced H (4 * p) w (rw (length-encoded Big 4 (holderOf s p)) fits))
+
+    pub names-next : NamesHeld s (p + 1) G J
+    names-next = rw put (record {
+      held = record {
+        long = rw (word-long H (4 * p) (holderOf s p) fits) (omega arith);
+        is = λ k l. by-last k p (omega arith) (λ d. holder-other k d ∙ n .held .is k d) (λ q. rw q holder-same);
+      };
+      kept = behind ∙ further H ∙ ap (drop 4) (n .kept) ∙ sym (further G);
+    })

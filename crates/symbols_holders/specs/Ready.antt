@@ -1,0 +1,68 @@
+-- Of the code, not of document 01: what is in hand to find the holders of positions, and what each step leaves. C and A are the objects, U the table of statics, T the rows
+-- of the ids, L the list, I its index; m is how many positions the list has.
+use Prim.Native.Nat.{ℕ, _+_, _*_, _≤_, _<_}
+use mathlib.Core.Path.{_≡_}
+use mathlib.Core.Bool.{Bool, false, cond}
+use mathlib.Core.List.{List}
+use lib.ListN.{length, drop}
+use lib.Dec.{eqb}
+use Rattle.base_lists.specs.Strings.{same}
+use Rattle.base_fields.specs.declared.ByteOrder.{ByteOrder}
+use Rattle.base_index.specs.Index.{hashOf, hashPlace, hashIn, Indexed}
+use Rattle.statics_table.specs.Table.{staticsIn}
+use Rattle.symbols_merge.specs.Candidates.{Candidates}
+use Rattle.symbols_merge.specs.Listed.{listed}
+use Rattle.symbols_ids.specs.Ids.{nameOf}
+use Rattle.symbols_names.specs.declared.Sources.{Sources}
+use Rattle.symbols_names.specs.Names.{firstIn, SourcesRead}
+use Rattle.symbols_rows.specs.Rows.{ID_LIMIT, idHash, candidatesIn, RowsOf, wordIn, ListOf, HoldersOf}
+
+-- each of the first m items of the index has the hash of its position's id
+pub record Hashed (T L I : List ℕ) (m : ℕ) : Type 0 where
+  pub each : (p : ℕ) → p < m → hashIn I p ≡ idHash T (wordIn L p)
+
+-- the list is indexed by the hashes of its ids
+pub record ListIndexed (T L I : List ℕ) (m : ℕ) : Type 0 where
+  pub indexed : Indexed ID_LIMIT I m
+  pub hashed : Hashed T L I m
+
+-- how many ids there are
+abbrev pub idCount : Sources → ℕ
+idCount s = firstIn s + s .statics
+
+-- position p has its item in the index and its word in the list, and that is an id
+pub record PositionHeld (s : Sources) (L I : List ℕ) (p : ℕ) : Type 0 where
+  pub item : hashPlace p + 4 ≤ length I
+  pub word : 4 * p + 4 ≤ length L
+  pub id : wordIn L p < idCount s
+
+module _ (o : ByteOrder) (C A U : List ℕ) (s : Sources) where
+  -- the working names of the ids
+  abbrev pub idName : ℕ → List ℕ
+  idName = nameOf o C A (staticsIn U (s .statics))
+
+  -- positions p and k have one hash and one name
+  unfoldable pub alikeIn : List ℕ → List ℕ → ℕ → ℕ → Bool
+  alikeIn L I p k = cond (eqb (hashIn I k) (hashIn I p)) (same (idName (wordIn L p)) (idName (wordIn L k))) false
+
+  -- the candidates in hand
+  abbrev pub symbolsIn : List ℕ → Candidates
+  symbolsIn T = candidatesIn T (idCount s) idName
+
+  -- names, rows and list in hand, the rows with the hashes of the names
+  pub record HoldersReady (T L : List ℕ) (m : ℕ) : Type 0 where
+    pub read : SourcesRead o C A U s
+    pub rows : RowsOf T (idCount s) idName
+    pub list : ListOf (symbolsIn T) L m
+    pub hashes : (i : ℕ) → i < idCount s → idHash T i ≡ hashOf (idName i)
+
+  -- the same of the whole list, which is indexed, and a position p of it
+  pub record PositionReady (T L I : List ℕ) (p : ℕ) : Type 0 where
+    pub low : p < length (listed (symbolsIn T))
+    pub ready : HoldersReady T L (length (listed (symbolsIn T)))
+    pub index : ListIndexed T L I (length (listed (symbolsIn T)))
+
+-- the first m words are the holders of their positions, and what stands behind them is as before
+pub record NamesHeld (s : Candidates) (m : ℕ) (before after : List ℕ) : Type 0 where
+  pub held : HoldersOf s after m
+  pub kept : drop (4 * m) after ≡ drop (4 * m) before

@@ -1,0 +1,249 @@
+// The holders of the positions of the list of symbols: the first position of each working name, found through an index of the list by the names' hashes, so that
+// names are compared only where their hashes agree. A caller puts `name_hash` into the row of each id, indexes the list, and has the holders put. A holder is
+// `holderOf` in the crate symbols_merge, specs/Listed.antt; what is in hand, and what is left: specs/Ready.antt. Document 01, "Symbols": "Equal non-empty working names
+// merge, binding ignored".
+ghost use mathlib.Core.Path.{_≡_};
+ghost use Prim.Native.Nat.{min, _+_, _-_, _*_, _≤_, _<_};
+ghost use lib.ListN.{length, getD, take};
+ghost use Rattle.base_lists.specs.Windows.{spliced};
+ghost use Rattle.base_fields.specs.declared.ByteOrder.the-variants.{Big};
+ghost use Rattle.base_fields.specs.Numbers.{encoded};
+ghost use Rattle.base_index.specs.Index.{HASH_BYTES, mixedByte, mixed, hashOf, hashPlace, Room};
+ghost use Rattle.base_scope.specs.Limits.{STATIC_LIMIT};
+ghost use Rattle.statics_table.specs.Statics.{countTail};
+ghost use Rattle.symbols_merge.specs.Listed.{holderOf};
+ghost use Rattle.symbols_names.specs.Names.{SourcesRead};
+ghost use Rattle.symbols_rows.specs.Rows.{ID_LIMIT, idHash, wordIn};
+ghost use Rattle.symbols_rows.specs.Steps.{Position, Positions};
+ghost use Rattle.symbols_holders.specs.Ready.{Hashed, ListIndexed, PositionHeld, alikeIn, idCount, idName, symbolsIn, HoldersReady, PositionReady, NamesHeld};
+use base_fields::ByteOrder;
+use symbols_names::Sources;
+
+// The most ids: both objects' symbols and the statics.
+pub const ID_LIMIT: usize = base_scope::SYMBOL_LIMIT
+    + base_scope::SYMBOL_LIMIT
+    + base_scope::STATIC_LIMIT;
+
+// How many bytes of a name are hashed behind its first n.
+fn room_behind(n: usize) -> usize
+    ensures { λ r. ⌜ r ≡ HASH_BYTES - n ⌝ }
+{
+    if n < base_index::HASH_BYTES {
+        return base_index::HASH_BYTES - n;
+    }
+    0
+}
+
+// A hash with byte i of `:` and a count behind it.
+fn mix_tail(h: u32, number: u32, i: usize) -> u32
+    requires { ⌜ (number ≤ STATIC_LIMIT) × (i < length (countTail number)) ⌝ }
+    ensures { λ r. ⌜ r ≡ mixedByte h (getD (countTail number) i 0) ⌝ }
+{
+    let byte = [symbols_names::tail_byte(number, i)];
+    base_index::hash_on(h, &byte, 1)
+}
+
+// How many bytes of `:` and a count there is room for.
+fn tail_room(number: u32, room: usize) -> usize
+    requires { ⌜ number ≤ STATIC_LIMIT ⌝ }
+    ensures { λ r. ⌜ r ≡ min room (length (countTail number)) ⌝ }
+{
+    let n = statics_table::tail_length(number) as usize;
+    if room < n {
+        return room;
+    }
+    n
+}
+
+// A hash with the first `room` bytes of `:` and a count behind it.
+fn hash_tail(h: u32, number: u32, room: usize) -> u32
+    requires { ⌜ number ≤ STATIC_LIMIT ⌝ }
+    ensures { λ r. ⌜ r ≡ mixed h (take room (countTail number)) ⌝ }
+{
+    let end = tail_room(number, room);
+    let mut g = h;
+    let mut i: usize = 0;
+    while i < end {
+        g = mix_tail(g, number, i);
+        i += 1;
+    }
+    g
+}
+
+// The hash of the working name of an id: of its stored name, and of its count as far as there is room.
+pub fn name_hash<'a>(
+    order: ByteOrder,
+    compiled: &'a [u8],
+    assembled: &'a [u8],
+    statics: &[u8],
+    sources: Sources,
+    id: usize,
+) -> u32
+    requires { ⌜ SourcesRead order (now compiled) (now assembled) (now statics) sources × (id < idCount sources) ⌝ }
+    ensures { λ r. ⌜ r ≡ hashOf (idName order (now (compiled .entry)) (now (assembled .entry)) (now (statics .entry)) sources id) ⌝ }
+{
+    let stored = symbols_names::stored_name(order, compiled, assembled, statics, sources, id);
+    let count = symbols_names::name_count(statics, sources, id);
+    let room = room_behind(stored.len());
+    hash_tail(base_index::hash_of(stored), count, room)
+}
+
+// Puts the hash of the id at position p, as that of item p.
+fn put_hash(rows: &[u8], list: &[u8], p: usize, index: &mut [u8])
+    requires { ⌜ Position (now rows) (now list) p × (hashPlace p + 4 ≤ length (now index)) ⌝ }
+    ensures { λ _. ⌜ now (index .exit) ≡ spliced (now (index .entry)) (hashPlace p) (encoded Big 4 (idHash (now (rows .entry)) (wordIn (now (list .entry)) p))) ⌝ }
+{
+    let row = symbols_rows::row_at(rows, list, p);
+    base_index::put_hash(index, p, row.hash);
+}
+
+// Puts the hashes of the ids at the m positions of the list.
+fn put_hashes(rows: &[u8], list: &[u8], m: usize, index: &mut [u8])
+    requires { ⌜ Positions (now rows) (now list) m × (m ≤ ID_LIMIT) × Room ID_LIMIT (now index) ⌝ }
+    ensures { λ _. ⌜ Hashed (now (rows .entry)) (now (list .entry)) (now (index .exit)) m ⌝ }
+{
+    let mut k: usize = 0;
+    while k < m {
+        put_hash(rows, list, k, index);
+        k += 1;
+    }
+}
+
+// Indexes the m positions of the list by the hashes of their ids.
+pub fn index_list(rows: &[u8], list: &[u8], m: usize, index: &mut [u8])
+    requires { ⌜ Positions (now rows) (now list) m × (m ≤ ID_LIMIT) × Room ID_LIMIT (now index) ⌝ }
+    ensures { λ _. ⌜ ListIndexed (now (rows .entry)) (now (list .entry)) (now (index .exit)) m ⌝ }
+{
+    put_hashes(rows, list, m, index);
+    base_index::build(index, ID_LIMIT, m);
+}
+
+// Whether position k has the name of position p: names are read only where the hashes agree.
+fn is_alike<'a>(
+    order: ByteOrder,
+    compiled: &'a [u8],
+    assembled: &'a [u8],
+    statics: &[u8],
+    sources: Sources,
+    list: &[u8],
+    index: &[u8],
+    p: usize,
+    k: usize,
+) -> bool
+    requires { ⌜ SourcesRead order (now compiled) (now assembled) (now statics) sources
+        × PositionHeld sources (now list) (now index) p × PositionHeld sources (now list) (now index) k ⌝ }
+    ensures { λ r. ⌜ r ≡ alikeIn order (now (compiled .entry)) (now (assembled .entry)) (now (statics .entry)) sources (now (list .entry)) (now (index .entry)) p k ⌝ }
+{
+    if base_index::hash_at(index, k) == base_index::hash_at(index, p) {
+        let i = symbols_rows::word_at(list, p);
+        let j = symbols_rows::word_at(list, k);
+        return symbols_names::is_same_name(order, compiled, assembled, statics, sources, i, j);
+    }
+    false
+}
+
+// The holder of position p. The walk through the bucket of its hash comes to p itself at the latest, and p need not be compared with itself.
+pub fn holder_at<'a>(
+    order: ByteOrder,
+    compiled: &'a [u8],
+    assembled: &'a [u8],
+    statics: &[u8],
+    sources: Sources,
+    rows: &[u8],
+    list: &[u8],
+    index: &[u8],
+    p: usize,
+) -> usize
+    requires { ⌜ PositionReady order (now compiled) (now assembled) (now statics) sources (now rows) (now list) (now index) p ⌝ }
+    ensures { λ r. ⌜ (r ≡ holderOf (symbolsIn order (now (compiled .entry)) (now (assembled .entry)) (now (statics .entry)) sources (now (rows .entry))) p) × (r ≤ p) ⌝ }
+{
+    let row = symbols_rows::row_at(rows, list, p);
+    if row.unnamed {
+        return p;
+    }
+    let mut k = base_index::head_of(index, ID_LIMIT, row.hash);
+    while k < p {
+        if is_alike(
+            order,
+            compiled,
+            assembled,
+            statics,
+            sources,
+            list,
+            index,
+            p,
+            k,
+        ) {
+            return k;
+        }
+        k = base_index::next_of(index, ID_LIMIT, k);
+    }
+    p
+}
+
+// Puts the holder of position p.
+fn hold_name<'a>(
+    order: ByteOrder,
+    compiled: &'a [u8],
+    assembled: &'a [u8],
+    statics: &[u8],
+    sources: Sources,
+    rows: &[u8],
+    list: &[u8],
+    index: &[u8],
+    p: usize,
+    holders: &mut [u8],
+)
+    requires { ⌜ PositionReady order (now compiled) (now assembled) (now statics) sources (now rows) (now list) (now index) p × (4 * p + 4 ≤ length (now holders)) ⌝ }
+    ensures { λ _. ⌜ now (holders .exit) ≡ spliced (now (holders .entry)) (4 * p) (encoded Big 4
+        (holderOf (symbolsIn order (now (compiled .entry)) (now (assembled .entry)) (now (statics .entry)) sources (now (rows .entry))) p)) ⌝ }
+{
+    let holder = holder_at(
+        order,
+        compiled,
+        assembled,
+        statics,
+        sources,
+        rows,
+        list,
+        index,
+        p,
+    );
+    base_fields::write32(ByteOrder::Big, holders, 4 * p, holder as u32);
+}
+
+// Puts the holders of the m positions of the list.
+pub fn hold_names<'a>(
+    order: ByteOrder,
+    compiled: &'a [u8],
+    assembled: &'a [u8],
+    statics: &[u8],
+    sources: Sources,
+    rows: &[u8],
+    list: &[u8],
+    index: &[u8],
+    m: usize,
+    holders: &mut [u8],
+)
+    requires { ⌜ HoldersReady order (now compiled) (now assembled) (now statics) sources (now rows) (now list) m
+        × ListIndexed (now rows) (now list) (now index) m × (4 * m ≤ length (now holders)) ⌝ }
+    ensures { λ _. ⌜ NamesHeld (symbolsIn order (now (compiled .entry)) (now (assembled .entry)) (now (statics .entry)) sources (now (rows .entry))) m
+        (now (holders .entry)) (now (holders .exit)) ⌝ }
+{
+    let mut p: usize = 0;
+    while p < m {
+        hold_name(
+            order,
+            compiled,
+            assembled,
+            statics,
+            sources,
+            rows,
+            list,
+            index,
+            p,
+            holders,
+        );
+        p += 1;
+    }
+}
