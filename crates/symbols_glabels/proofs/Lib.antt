@@ -1,0 +1,4 @@
+pub mod Names
+pub mod Marks
+pub mod Groups
+pub mod Words

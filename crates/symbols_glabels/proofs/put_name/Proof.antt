@@ -1,0 +1,34 @@
+-- The hash put is that of the name in hand. Assumes nothing.
+use Rattle.base_lists.specs.Windows.{spliced}
+use Rattle.base_fields.specs.Numbers.{encoded}
+use Rattle.base_fields.specs.declared.ByteOrder.the-variants.{Big}
+use Rattle.base_index.specs.Index.{hashPlace, hashOf}
+use Prim.Native.Nat.{ℕ}
+use mathlib.Core.Path.{ap, _∙_}
+use denote.Ref.{now}
+use borrow.Author.Needs.{needs}
+use Rattle.symbols_glabels.proofs.put_name.Statement.{statement}
+use Rattle.symbols_glabels.proofs.put_name.Tie as tie
+
+symbol-name-requires : tie.Need-symbol-name-requires
+symbol-name-requires c κs = search needs
+
+hash-of-requires : tie.Need-hash-of-requires
+hash-of-requires c κs = search needs
+
+put-hash-requires : tie.Need-put-hash-requires
+put-hash-requires c κs = search needs
+
+same-length : tie.Need-same-length
+same-length c = search needs
+
+returns : tie.Need-returns
+returns c =
+    let a = c .before .before .before .before .before .before .before .before .before .args in
+    c .before .before .put-hash .ensures
+    ∙ ap (λ (h : ℕ). spliced (now (a .index)) (hashPlace (a .k)) (encoded Big 4 h)) (c .before .before .before .hash-of .ensures ∙ ap hashOf (c .before .before .before .before .before .symbol-name .ensures))
+
+pub put-name-spec : {M : Type 1} → statement M
+put-name-spec =
+    tie.close
+    (tie.spec symbol-name-requires hash-of-requires put-hash-requires same-length returns)
