@@ -1,0 +1,142 @@
+-- Of the code, not of document 01: the row of each id, over what is in hand. C is the compiled object, A the assembled one, T the table of statics, `late` the table of the late
+-- step, f the rest. proofs/Candidates.antt says that taken ids stand where their entries do.
+use Prim.Native.Nat.{ℕ, _+_, _*_, _≤_, _<_}
+use mathlib.Core.Path.{_≡_}
+use mathlib.Core.Bool.{Bool, true, false, cond}
+use mathlib.Core.List.{List}
+use lib.ListN.{length}
+use lib.Dec.{eqb}
+use Rattle.base_lists.specs.Strings.{same}
+use Rattle.base_lists.specs.Windows.{Within}
+use Rattle.base_fields.specs.declared.ByteOrder.{ByteOrder}
+use Rattle.base_packed.specs.Packed.{bindingOf}
+use Rattle.base_index.specs.Index.{hashOf}
+use Rattle.base_scope.specs.Text.{text}
+use Rattle.base_scope.specs.Codes.{LATE-RODATA, CODES, targetCode}
+use Rattle.base_scope.specs.Limits.{SECTION_LIMIT, STATIC_LIMIT, STATIC_ROW}
+use Rattle.elf_records.specs.declared.symbol.SymbolEntry.{SymbolEntry}
+use Rattle.elf_symbols.specs.Symbols.{symbolCount, symbol}
+use Rattle.elf_check.specs.declared.View.{View}
+use Rattle.elf_check.specs.View.{sectionIn, Viewed}
+use Rattle.late_lookups.specs.declared.LatePlace.{LatePlace}
+use Rattle.late_lookups.specs.declared.LatePlace.the-variants.{Moved, Unmoved}
+use Rattle.late_lookups.specs.Fields.{offsetAt}
+use Rattle.statics_table.specs.Statics.{staticBinding}
+use Rattle.statics_table.specs.Table.{staticIn}
+use Rattle.symbols_taken.specs.Taken.{isTakenC, isTakenA, isPlacedIn}
+use Rattle.symbols_taken.specs.Code.{codeIn, usedBytes, LateIn}
+use Rattle.symbols_ids.specs.Ids.{byOrigin}
+use Rattle.symbols_names.specs.Names.{SourcesRead}
+use Rattle.symbols_rows.specs.declared.IdRow.{IdRow}
+use Rattle.symbols_rows.specs.Rows.{idRow}
+use Rattle.symbols_holders.specs.Ready.{idCount, idName}
+use Rattle.symbols_fill.specs.declared.SymbolPlace.{SymbolPlace}
+use Rattle.symbols_fill.specs.declared.Filling.{Filling}
+
+-- ---- places
+
+-- that of an entry
+unfoldable pub entryPlace : SymbolEntry → SymbolPlace
+entryPlace e = record { section = e .«st_shndx»; value = e .«st_value»; binding = bindingOf (e .«st_info») }
+
+-- C's symbol k
+unfoldable pub placeC : ByteOrder → List ℕ → ℕ → SymbolPlace
+placeC o C k = entryPlace (symbol o C k)
+
+-- what an answer of the table comes to
+abbrev pub placeNumber : LatePlace → ℕ
+placeNumber (Moved p) = p
+placeNumber Unmoved = 0
+
+-- the place of late offset x, by the table of n blocks where the late step runs
+unfoldable pub latePlaceIn : Bool → List ℕ → ℕ → ℕ → ℕ
+latePlaceIn runs late n x = cond runs (placeNumber (offsetAt late n x)) 0
+
+-- value x in A's section of a code
+unfoldable pub lateValueIn : ℕ → Bool → List ℕ → ℕ → ℕ → ℕ
+lateValueIn code runs late n x = cond (eqb code LATE-RODATA) (latePlaceIn runs late n x) x
+
+-- A's symbol k: its section index, and its place
+unfoldable pub indexA : List ℕ → Filling → ℕ → ℕ
+indexA A f k = symbol (f .inputs .order) A k .«st_shndx»
+
+module _ (A late : List ℕ) (f : Filling) where
+  unfoldable pub placeA : ℕ → SymbolPlace
+  placeA k = record {
+    section = cond (isPlacedIn (indexA A f k)) (sectionIn (f .inputs .compiled) (targetCode (codeIn (f .inputs .assembled) (indexA A f k)))) (indexA A f k);
+    value =
+        cond (isPlacedIn (indexA A f k))
+        (lateValueIn (codeIn (f .inputs .assembled) (indexA A f k)) (f .step .runs) late (f .inputs .blocks) (symbol (f .inputs .order) A k .«st_value»))
+        (symbol (f .inputs .order) A k .«st_value»);
+    binding = bindingOf (symbol (f .inputs .order) A k .«st_info»);
+  }
+
+-- static k
+unfoldable pub placeStatic : List ℕ → Filling → ℕ → SymbolPlace
+placeStatic T f k = record { section = sectionIn (f .inputs .compiled) (staticIn T k .code); value = staticIn T k .value; binding = staticBinding (f .mode) }
+
+-- nothing is asked of an id that is not taken
+abbrev pub takenPlace : Bool → SymbolPlace → SymbolPlace
+takenPlace true p = p
+takenPlace false p = record { section = 0; value = 0; binding = 0 }
+
+-- ---- rows
+
+-- as the candidates' `taken`
+unfoldable pub isTaken : ByteOrder → List ℕ → List ℕ → ℕ → Bool
+isTaken o C A i = byOrigin o C A (isTakenC o C) (isTakenA o A) (λ k. true) i
+
+module _ (C A T late : List ℕ) (f : Filling) where
+  -- by where id i comes from
+  unfoldable pub idPlace : ℕ → SymbolPlace
+  idPlace i = byOrigin (f .inputs .order) C A (placeC (f .inputs .order) C) (placeA A late f) (placeStatic T f) i
+
+  unfoldable pub rowOf : ℕ → IdRow
+  rowOf i = record {
+    taken = isTaken (f .inputs .order) C A i;
+    unnamed = eqb (length (idName (f .inputs .order) C A T (f .sources) i)) 0;
+    «gp_disp» = same (idName (f .inputs .order) C A T (f .sources) i) (text "_gp_disp");
+    binding = takenPlace (isTaken (f .inputs .order) C A i) (idPlace i) .binding;
+    section = takenPlace (isTaken (f .inputs .order) C A i) (idPlace i) .section;
+    value = takenPlace (isTaken (f .inputs .order) C A i) (idPlace i) .value;
+    hash = hashOf (idName (f .inputs .order) C A T (f .sources) i);
+  }
+
+-- ---- what is in hand
+
+-- the sections of the codes are few
+abbrev pub SmallSections : View → Type 0
+SmallSections v = (c : ℕ) → 1 ≤ c → c ≤ CODES → sectionIn v c ≤ SECTION_LIMIT
+
+-- A's symbol k
+pub record AtSource (A late : List ℕ) (f : Filling) (k : ℕ) : Type 0 where
+  pub viewed : Viewed (f .inputs .order) A (f .inputs .assembled)
+  pub table : LateIn (f .step .runs) late (f .inputs .blocks)
+  pub small : SmallSections (f .inputs .compiled)
+  pub below : k < symbolCount (f .inputs .order) A
+
+-- static k
+pub record AtStatic (T : List ℕ) (f : Filling) (k : ℕ) : Type 0 where
+  pub small : SmallSections (f .inputs .compiled)
+  pub few : k < STATIC_LIMIT
+  pub long : STATIC_ROW * k + STATIC_ROW ≤ length T
+  pub code : (1 ≤ staticIn T k .code) × (staticIn T k .code ≤ CODES)
+
+-- for the places of ids: both views, the names, the table of the late step where it runs, and statics of some code
+pub record PlacesReady (C A T late : List ℕ) (f : Filling) : Type 0 where
+  pub compiled : Viewed (f .inputs .order) C (f .inputs .compiled)
+  pub assembled : Viewed (f .inputs .order) A (f .inputs .assembled)
+  pub names : SourcesRead (f .inputs .order) C A T (f .sources)
+  pub table : LateIn (f .step .runs) late (f .inputs .blocks)
+  pub codes : (k : ℕ) → k < f .sources .statics → (1 ≤ staticIn T k .code) × (staticIn T k .code ≤ CODES)
+
+-- for their rows: the marks too
+pub record FillReady (C A T used late : List ℕ) (f : Filling) : Type 0 where
+  pub places : PlacesReady C A T late f
+  pub marks : Within (usedBytes (f .inputs .order) A) 0 used
+
+-- what filling leaves: the rows of all ids
+pub record FilledRows (C A T late : List ℕ) (f : Filling) (before : List ℕ) (n : ℕ) (after : List ℕ) : Type 0 where
+  pub many : n ≡ idCount (f .sources)
+  pub long : length after ≡ length before
+  pub rows : (i : ℕ) → i < idCount (f .sources) → idRow after i ≡ rowOf C A T late f i
