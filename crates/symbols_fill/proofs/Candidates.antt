@@ -31,7 +31,7 @@ use Rattle.symbols_rows.proofs.Tables.{rows-of, filled-agree}
 use Rattle.symbols_holders.specs.Ready.{idCount, idName, symbolsIn, HoldersReady}
 use Rattle.symbols_fill.specs.declared.SymbolPlace.{SymbolPlace}
 use Rattle.symbols_fill.specs.declared.Filling.{Filling}
-use Rattle.symbols_fill.specs.Fill.{entryPlace, placeC, placeA, placeStatic, takenPlace, isTaken, idPlace, rowOf, PlacesReady, FillReady, FilledRows}
+use Rattle.symbols_fill.specs.Fill.{placeByEntry, placeC, placeA, placeStatic, takenPlace, isTaken, idPlace, rowOf, PlacesReady, FillReady, FilledRows}
 use Rattle.symbols_fill.specs.Stage.{FillStage}
 use Rattle.symbols_fill.proofs.Origins.{origin-other}
 use Rattle.symbols_fill.proofs.Filled.{ids-few}
@@ -64,29 +64,29 @@ module _ (C A : List ℕ) (P : List Place) (B T late : List ℕ) (f : Filling) (
     taken-a taken l u = sym (origin-other o C A n m own-count other-count i Bool (isTakenC o C) (isTakenA o A) (λ j. true) l u) ∙ taken
 
     -- a taken id stands where its entry does
-    pub place-is : i < idCount (f .sources) → isTaken o C A i ≡ true → idPlace C A T late f i ≡ entryPlace (entryOf o C A P B (f .mode) S i)
+    pub place-is : i < idCount (f .sources) → isTaken o C A i ≡ true → idPlace C A T late f i ≡ placeByEntry (entryOf o C A P B (f .mode) S i)
     unfolding idPlace entryOf
     place-is h taken =
-        origin-related o C A n m own-count other-count i SymbolPlace SymbolEntry entryPlace (placeC o C) (placeA A late f) (placeStatic T f) (symbol o C) (entryA o C A P B)
+        origin-related o C A n m own-count other-count i SymbolPlace SymbolEntry placeByEntry (placeC o C) (placeA A late f) (placeStatic T f) (symbol o C) (entryA o C A P B)
         (entryStatic o C A P B (f .mode) S) (place-c-is o C i)
         (λ l u. place-a-is C A P B T late f s (i - n) (omega (arith, l, u, other-count)) (taken-a taken l u))
         (λ l. place-static-is C A P B T late f s (i - (n + m)) (omega (arith, h, l)))
         ∙ sym (finished-place (nameOf o C A S i) (byOrigin o C A (symbol o C) (entryA o C A P B) (entryStatic o C A P B (f .mode) S) i))
 
     -- and so its row
-    row-place : i < idCount (f .sources) → isTaken o C A i ≡ true → takenPlace (isTaken o C A i) (idPlace C A T late f i) ≡ entryPlace (entryOf o C A P B (f .mode) S i)
+    row-place : i < idCount (f .sources) → isTaken o C A i ≡ true → takenPlace (isTaken o C A i) (idPlace C A T late f i) ≡ placeByEntry (entryOf o C A P B (f .mode) S i)
     row-place h taken = rw taken (place-is h taken)
 
     pub row-section : i < idCount (f .sources) → isTaken o C A i ≡ true → rowOf C A T late f i .section ≡ entryOf o C A P B (f .mode) S i .«st_shndx»
-    unfolding rowOf entryPlace
+    unfolding rowOf placeByEntry
     row-section h taken = ap (λ (x : SymbolPlace). x .section) (row-place h taken)
 
     pub row-value : i < idCount (f .sources) → isTaken o C A i ≡ true → rowOf C A T late f i .value ≡ entryOf o C A P B (f .mode) S i .«st_value»
-    unfolding rowOf entryPlace
+    unfolding rowOf placeByEntry
     row-value h taken = ap (λ (x : SymbolPlace). x .value) (row-place h taken)
 
     pub row-binding : i < idCount (f .sources) → isTaken o C A i ≡ true → rowOf C A T late f i .binding ≡ bindingOf (entryOf o C A P B (f .mode) S i .«st_info»)
-    unfolding rowOf entryPlace
+    unfolding rowOf placeByEntry
     row-binding h taken = ap (λ (x : SymbolPlace). x .binding) (row-place h taken)
 
   -- ---- what is in hand, and what filling leaves

@@ -40,7 +40,7 @@ use Rattle.symbols_taken.proofs.Faults.{target-low}
 use Rattle.symbols_ids.specs.Entries.{finished, latePlace, isPlacedA, sectionA, valueA, isGlabelA, typeA, entryA}
 use Rattle.symbols_ids.specs.Ids.{entryStatic}
 use Rattle.symbols_fill.specs.declared.Filling.{Filling}
-use Rattle.symbols_fill.specs.Fill.{entryPlace, placeC, latePlaceIn, lateValueIn, indexA, placeA, placeStatic}
+use Rattle.symbols_fill.specs.Fill.{placeByEntry, placeC, latePlaceIn, lateValueIn, indexA, placeA, placeStatic}
 use Rattle.symbols_fill.specs.Stage.{FillStage}
 
 -- ---- the place of an entry
@@ -49,8 +49,8 @@ finished-type : (e : SymbolEntry) (b : Bool) → cond b STT_OBJECT (typeOf (e .�
 finished-type e true = omega arith
 finished-type e false = omega arith
 
-pub finished-place : (name : List ℕ) (e : SymbolEntry) → entryPlace (finished name e) ≡ entryPlace e
-unfolding entryPlace finished
+pub finished-place : (name : List ℕ) (e : SymbolEntry) → placeByEntry (finished name e) ≡ placeByEntry e
+unfolding placeByEntry finished
 finished-place name e =
     rw (binding-join (bindingOf (e .«st_info»)) (cond (same name (text "_gp_disp")) STT_OBJECT (typeOf (e .«st_info»))) (finished-type e (same name (text "_gp_disp"))))
 
@@ -67,7 +67,7 @@ sound-codes o C T head n s k h =
     let e = nth-row T n k h in
     (rw (← e) (x .low), rw (← e) (x .high))
 
-pub place-c-is : (o : ByteOrder) (C : List ℕ) (k : ℕ) → placeC o C k ≡ entryPlace (symbol o C k)
+pub place-c-is : (o : ByteOrder) (C : List ℕ) (k : ℕ) → placeC o C k ≡ placeByEntry (symbol o C k)
 unfolding placeC
 place-c-is o C k = refl
 
@@ -123,12 +123,12 @@ module _ (C A : List ℕ) (P : List Place) (B T late : List ℕ) (f : Filling) (
     unfolding placeA entryA typeA
     binding-same = binding-join (bindingOf (symbol o A k .«st_info»)) (cond (isGlabelA o C A P B k) STT_FUNC (typeOf (symbol o A k .«st_info»))) (glabel-type (symbol o A k .«st_info») (isGlabelA o C A P B k))
 
-    pub place-a-is : k < symbolCount o A → isTakenA o A k ≡ true → placeA A late f k ≡ entryPlace (entryA o C A P B k)
-    unfolding entryPlace entryA
+    pub place-a-is : k < symbolCount o A → isTakenA o A k ≡ true → placeA A late f k ≡ placeByEntry (entryA o C A P B k)
+    unfolding placeByEntry entryA
     place-a-is h taken = λ j. record { section = section-same j; value = value-same h taken j; binding = sym binding-same j }
 
-    pub place-static-is : k < f .sources .statics → placeStatic T f k ≡ entryPlace (entryStatic o C A P B (f .mode) S k)
-    unfolding placeStatic entryPlace entryStatic staticSymbol symbolOfStatic staticType
+    pub place-static-is : k < f .sources .statics → placeStatic T f k ≡ placeByEntry (entryStatic o C A P B (f .mode) S k)
+    unfolding placeStatic placeByEntry entryStatic staticSymbol symbolOfStatic staticType
     place-static-is h =
         let c = s .codes k h in
         rw (nth-row T (f .sources .statics) k h, view-section o C (f .inputs .compiled) (s .compiled .is) (staticIn T k .code) (c .0) (c .1), binding-join (staticBinding (f .mode)) (cond (eqb (staticIn T k .code) TEXT) STT_FUNC STT_OBJECT) (static-type (eqb (staticIn T k .code) TEXT)))

@@ -30,7 +30,7 @@ use Rattle.symbols_taken.specs.Taken.{isPlacedIn}
 use Rattle.symbols_taken.specs.Code.{codeIn}
 use Rattle.symbols_fill.specs.declared.SymbolPlace.{SymbolPlace}
 use Rattle.symbols_fill.specs.declared.Filling.{Filling}
-use Rattle.symbols_fill.specs.Fill.{entryPlace, placeC, latePlaceIn, lateValueIn, indexA, placeA, placeStatic, SmallSections}
+use Rattle.symbols_fill.specs.Fill.{placeByEntry, placeC, latePlaceIn, lateValueIn, indexA, placeA, placeStatic, SmallSections}
 
 -- ---- sections
 
@@ -90,7 +90,7 @@ module _ (runs : Bool) (late : List ℕ) (n x : ℕ) where
 
 pub place-own : (o : ByteOrder) (C : List ℕ) (k : ℕ) (e : SymbolEntry) (b : ℕ) → e ≡ symbol o C k → b ≡ bindingOf (e .«st_info»)
     → _≡_ {A = SymbolPlace} (record { section = e .«st_shndx»; value = e .«st_value»; binding = b }) (placeC o C k)
-unfolding placeC entryPlace
+unfolding placeC placeByEntry
 place-own o C k e b is f = rw (f, is)
 
 module _ (A late : List ℕ) (f : Filling) (k : ℕ) (e : SymbolEntry) (b : ℕ) (is : e ≡ symbol (f .inputs .order) A k) (bound : b ≡ bindingOf (e .«st_info»)) where

@@ -36,12 +36,12 @@ use Rattle.symbols_fill.specs.declared.Filling.{Filling}
 -- ---- places
 
 -- that of an entry
-unfoldable pub entryPlace : SymbolEntry → SymbolPlace
-entryPlace e = record { section = e .«st_shndx»; value = e .«st_value»; binding = bindingOf (e .«st_info») }
+unfoldable pub placeByEntry : SymbolEntry → SymbolPlace
+placeByEntry e = record { section = e .«st_shndx»; value = e .«st_value»; binding = bindingOf (e .«st_info») }
 
 -- C's symbol k
 unfoldable pub placeC : ByteOrder → List ℕ → ℕ → SymbolPlace
-placeC o C k = entryPlace (symbol o C k)
+placeC o C k = placeByEntry (symbol o C k)
 
 -- what an answer of the table comes to
 abbrev pub placeNumber : LatePlace → ℕ
