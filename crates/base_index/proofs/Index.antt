@@ -7,7 +7,7 @@ use mathlib.Core.List.{List}
 use native.Mathlib.Omega.{arith}
 use borrow.Author.Tests.{eq-eqb, ne-eqb, eqb-true}
 use Rattle.base_lists.specs.Ranges.{first, IsFirst}
-use Rattle.base_lists.proofs.Ranges.{by-test, both, by-lt, first-is, first-unique, first-here, first-next, first-end, first-low}
+use Rattle.base_lists.proofs.Ranges.{by-test, both, by-lt, first-is, first-over, first-here, first-next, first-end, first-low}
 use Rattle.base_index.specs.Index.{bucketOf, hashIn, nextIn, headIn, inBucket, Indexed}
 
 -- an item is in the bucket of its hash alone
@@ -27,13 +27,6 @@ module _ (T : List ℕ) (b k : ℕ) where
 pub bucket-same : (T U : List ℕ) (b k : ℕ) → hashIn T k ≡ hashIn U k → inBucket T b k ≡ inBucket U b k
 unfolding inBucket
 bucket-same T U b k e = rw e
-
--- a search may pass over indices that do not pass
-pub first-over : (p : ℕ → Bool) (i m n : ℕ) → i ≤ m → m ≤ n → ((j : ℕ) → i ≤ j → j < m → p j ≡ false) → first p i n ≡ first p m n
-first-over p i m n l u none =
-    let r = first-is p m n u in
-    first-unique p i n _ _ (first-is p i n (omega arith))
-    (record { low = omega (arith, r .low); high = r .high; below = λ j g h. by-lt j m (λ k. none j g k) (λ k. r .below j k h); here = r .here })
 
 -- the walk through h's bucket stands at item k, or behind the last one where k is n: the search for p has come as far
 pub record Reached (p : ℕ → Bool) (h : ℕ) (T : List ℕ) (n k : ℕ) : Type 0 where

@@ -128,6 +128,26 @@ module _ (p : ℕ → Bool) where
       first-unique i m _ _ (first-is i m (omega arith))
       (record { low = r .low; high = omega arith; below = r .below; here = λ u. r .here h }))
 
+-- a search may pass over indices that do not pass
+pub first-over : (p : ℕ → Bool) (i m n : ℕ) → i ≤ m → m ≤ n → ((j : ℕ) → i ≤ j → j < m → p j ≡ false) → first p i n ≡ first p m n
+first-over p i m n l u none =
+    let r = first-is p m n u in
+    first-unique p i n _ _ (first-is p i n (omega arith))
+    (record { low = omega (arith, r .low); high = r .high; below = λ j g h. by-lt j m (λ k. none j g k) (λ k. r .below j k h); here = r .here })
+
+-- whether some index passes, one index further
+pub some-zero : (p : ℕ → Bool) → ltb (first p 0 0) 0 ≡ false
+some-zero p = le-ltb (first p 0 0) 0 (omega arith)
+
+pub some-next : (p : ℕ → Bool) (n : ℕ) → ltb (first p 0 (n + 1)) (n + 1) ≡ (ltb (first p 0 n) n || p n)
+some-next p n = by-test (ltb (first p 0 n) n)
+    (λ t.
+    let h = some-hit p 0 n (omega arith) t in
+    rw t (some-yes p 0 (n + 1) (first p 0 n) (omega arith) (omega (arith, h .0)) (h .1)))
+    (λ f. by-test (p n)
+    (λ t. rw (f, t) (some-yes p 0 (n + 1) n (omega arith) (omega arith) t))
+    (λ g. rw (f, g) (some-no p 0 (n + 1) (omega arith) (λ j l u. by-last j n (omega arith) (λ v. no-some p 0 n j f l v) (λ e. rw e g)))))
+
 -- two tests that agree from i on below n
 pub first-ext : (p q : ℕ → Bool) (i n : ℕ) → ((j : ℕ) → i ≤ j → j < n → p j ≡ q j) → first p i n ≡ first q i n
 first-ext p q i n agree = by-lt i n

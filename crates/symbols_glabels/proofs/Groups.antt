@@ -11,7 +11,7 @@ use lib.Dec.{ltb}
 use borrow.Author.Tests.{lt-ltb, le-ltb}
 use Rattle.base_lists.specs.Ranges.{first}
 use Rattle.base_lists.specs.Rows.{indexIn, hasIndex, rowIn, hasRow}
-use Rattle.base_lists.proofs.Ranges.{by-test, first-ext, first-past, past-here, past-next}
+use Rattle.base_lists.proofs.Ranges.{by-test, first-ext, first-past, past-here, past-next, some-zero, some-next}
 use Rattle.base_lists.proofs.Rows.{index-none}
 use Rattle.base_lists.proofs.Strings.{same-sym}
 use Rattle.base_fields.specs.declared.ByteOrder.{ByteOrder}
@@ -26,26 +26,6 @@ use Rattle.blocks_places.specs.Places.{Place, live}
 use Rattle.blocks_glabels.specs.Glabels.{glabelCount, glabel, isGlabelAt, isGlabel}
 use Rattle.symbols_glabels.specs.Words.{Marked, isLineNamed, isAmong, isInGroup}
 use Rattle.symbols_glabels.proofs.Marks.{marked-as, marked-none, marked-then}
-
--- ---- one more of the indices searched
-
-pub some-next : (p : ℕ → Bool) (n : ℕ) → ltb (first p 0 (n + 1)) (n + 1) ≡ (ltb (first p 0 n) n || p n)
-some-next p n =
-    let e : n + 1 - 1 ≡ n = omega arith in
-    first-past p 0 (n + 1) ∙ by-test (p n)
-    (λ t. rw (past-here p (n + 1) (omega arith) (rw e t), t, lt-ltb 0 (n + 1) (omega arith)) (sym (or-true (ltb (first p 0 n) n))))
-    (λ f. rw (past-next p (n + 1) (omega arith) (rw e f), e, f) (sym (first-past p 0 n) ∙ sym (or-false (ltb (first p 0 n) n))))
-  where
-    or-true : (b : Bool) → (b || true) ≡ true
-    or-true true = refl
-    or-true false = refl
-
-    or-false : (b : Bool) → (b || false) ≡ b
-    or-false true = refl
-    or-false false = refl
-
-pub some-zero : (p : ℕ → Bool) → ltb (first p 0 0) 0 ≡ false
-some-zero p = le-ltb (first p 0 0) 0 (omega arith)
 
 -- ---- how many lines a group has
 

@@ -13,7 +13,7 @@ use borrow.Author.Tests.{ne-eqb, eqb-true, eqb-false, le-ltb}
 use Rattle.base_lists.specs.Ranges.{first}
 use Rattle.base_lists.specs.Windows.{Within, spliced}
 use Rattle.base_lists.specs.Rows.{hasIndex, indexIn, rowIn, hasRow}
-use Rattle.base_lists.proofs.Ranges.{by-test, by-last, select-all-length, select-all-at, some-yes, some-no, some-hit, no-some}
+use Rattle.base_lists.proofs.Ranges.{by-test, by-last, select-all-length, select-all-at, some-no, some-zero, some-next}
 use Rattle.base_lists.proofs.Windows.{within-byte, within-fits, within-spliced}
 use Rattle.base_packed.specs.Packed.{symbolOf}
 use Rattle.base_buffers.specs.Buffers.{zeros}
@@ -65,20 +65,6 @@ module _ (x y : ℕ) (l : List ℕ) (same : x ≡ y) where
 
   pub marked-past : length l ≤ x → l ≡ marked (λ k. eqb y k) l
   marked-past h = marked-is (λ k. eqb y k) l l refl (λ k g. let n : (y ≡ k → ⊥) = λ e. absurd (omega arith) in rw (ne-eqb y k n))
-
--- ---- one more of the indices searched
-
-pub some-next : (p : ℕ → Bool) (n : ℕ) → ltb (first p 0 (n + 1)) (n + 1) ≡ (ltb (first p 0 n) n || p n)
-some-next p n = by-test (ltb (first p 0 n) n)
-    (λ t.
-    let h = some-hit p 0 n (omega arith) t in
-    rw t (some-yes p 0 (n + 1) (first p 0 n) (omega arith) (omega (arith, h .0)) (h .1)))
-    (λ f. by-test (p n)
-    (λ t. rw (f, t) (some-yes p 0 (n + 1) n (omega arith) (omega arith) t))
-    (λ g. rw (f, g) (some-no p 0 (n + 1) (omega arith) (λ j l u. by-last j n (omega arith) (λ v. no-some p 0 n j f l v) (λ e. rw e g)))))
-
-pub some-zero : (p : ℕ → Bool) → ltb (first p 0 0) 0 ≡ false
-some-zero p = le-ltb (first p 0 0) 0 (omega arith)
 
 -- ---- the entries of a table, and the tables
 
