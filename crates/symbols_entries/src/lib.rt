@@ -148,17 +148,7 @@ pub fn static_entry(statics: &[u8], mode: u32, base: u32, section: u32, k: usize
     requires { ⌜ (STATIC_ROW * k + STATIC_ROW ≤ length (now statics)) × (k < STATIC_LIMIT) × (base + staticIn (now statics) k .offset < 4294967296) ⌝ }
     ensures { λ r. ⌜ r ≡ symbolOfStatic section mode base (staticIn (now (statics .entry)) k) ⌝ }
 {
-    let s = Static::read(statics, k);
-    let binding = statics_names::static_binding(mode);
-    let kind = statics_names::static_type(s);
-    SymbolEntry {
-        st_name: base + s.offset,
-        st_value: s.value,
-        st_size: 0,
-        st_info: base_packed::symbol_info(binding, kind),
-        st_other: 0,
-        st_shndx: section,
-    }
+    statics_symbols::static_symbol(mode, base, section, Static::read(statics, k))
 }
 
 // How many bytes the strings of a table have.

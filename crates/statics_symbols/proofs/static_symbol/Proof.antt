@@ -20,25 +20,20 @@ add-t7 c = search needs
 symbol-info-requires : tie.Need-symbol-info-requires
 symbol-info-requires c κs = search needs
 
-section-requires : tie.Need-section-requires
-section-requires c κs = search needs
-
-cast-t10 : tie.Need-cast-t10
-cast-t10 c = search needs
-
 returns : tie.Need-returns
 unfolding symbolOfStatic
 returns c =
-    let a = c .before .before .before .before .before .args in
-    let info = c .before .symbol-info .ensures ∙ ap (λ (x : ℕ). symbolInfo x (c .before .before .before .static-type .result)) (c .before .before .before .before .static-binding .ensures .0)
-    ∙ ap (symbolInfo (staticBinding (a .mode))) (c .before .before .before .static-type .ensures .0) in
+    let a = c .before .before .before .before .args in
+    let kind = c .before .before .static-type in
+    let info = c .symbol-info .ensures ∙ ap (λ (x : ℕ). symbolInfo x (kind .result)) (c .before .before .before .static-binding .ensures .0)
+    ∙ ap (symbolInfo (staticBinding (a .mode))) (kind .ensures .0) in
     λ k. record {
       «st_name» = a .base + a .s .offset;
       «st_value» = a .s .value;
       «st_size» = 0;
       «st_info» = info k;
       «st_other» = 0;
-      «st_shndx» = c .section .ensures k;
+      «st_shndx» = a .section;
     }
 
 pub static-symbol-spec : {M : Type 1} → statement M
@@ -49,6 +44,4 @@ static-symbol-spec =
     static-type-requires
     add-t7
     symbol-info-requires
-    section-requires
-    cast-t10
     returns)
