@@ -56,7 +56,11 @@ HEAD_LIMIT = 256
 abbrev pub WRITTEN_LIMIT : ℕ
 WRITTEN_LIMIT = 1286
 
--- the bytes of a row: twelve words for a block, two for a line, two for a span, three for a block in the late step, six for a static
+-- ids of a merge: C's symbols, A's, and the statics
+abbrev pub ID_LIMIT : ℕ
+ID_LIMIT = SYMBOL_LIMIT + SYMBOL_LIMIT + STATIC_LIMIT
+
+-- the bytes of a row: twelve words for a block, two for a line, two for a span, three for a block in the late step, six for a static, four for an id
 abbrev pub BLOCK_ROW : ℕ
 BLOCK_ROW = 48
 
@@ -71,6 +75,9 @@ LATE_ROW = 12
 
 abbrev pub STATIC_ROW : ℕ
 STATIC_ROW = 24
+
+abbrev pub ID_ROW : ℕ
+ID_ROW = 16
 
 -- the least lengths of the working buffers
 abbrev pub BLOCK_TABLE : ℕ
@@ -92,6 +99,24 @@ LATE_TABLE = LATE_WORDS + 4 * DUMMY_LIMIT
 
 abbrev pub STATIC_TABLE : ℕ
 STATIC_TABLE = STATIC_ROW * STATIC_LIMIT
+
+-- a byte for each of A's symbols that says whether it is used, and a word for its glabel
+abbrev pub USED_TABLE : ℕ
+USED_TABLE = SYMBOL_LIMIT
+
+abbrev pub GLABEL_TABLE : ℕ
+GLABEL_TABLE = 4 * SYMBOL_LIMIT
+
+abbrev pub ID_TABLE : ℕ
+ID_TABLE = ID_ROW * ID_LIMIT
+
+-- a word for each id, or for each position of the list of them
+abbrev pub POSITION_TABLE : ℕ
+POSITION_TABLE = 4 * ID_LIMIT
+
+-- an index by hash of as many items: two words for each, and a word for each of 4,096 buckets (`base_index`, specs/Index.antt)
+abbrev pub INDEX_TABLE : ℕ
+INDEX_TABLE = 8 * ID_LIMIT + 16384
 
 -- a number with its limit: it may not pass it, or may not fall below it
 pub data Bound : Type 0 where

@@ -29,6 +29,8 @@ pub const STATIC_NAME_LIMIT: usize = 1024;
 
 pub const DUMMY_LINE: usize = 15;
 
+pub const ID_LIMIT: usize = 12288;
+
 // The bytes of a row of each working table.
 pub const BLOCK_ROW: usize = 48;
 
@@ -39,6 +41,8 @@ pub const SPAN_ROW: usize = 8;
 pub const LATE_ROW: usize = 12;
 
 pub const STATIC_ROW: usize = 24;
+
+pub const ID_ROW: usize = 16;
 
 // The least lengths of the working buffers (docs/SIZES.md).
 pub const BLOCK_TABLE: usize = 49152;
@@ -52,6 +56,16 @@ pub const LATE_WORDS: usize = 12300;
 pub const LATE_TABLE: usize = 291920;
 
 pub const STATIC_TABLE: usize = 98304;
+
+pub const USED_TABLE: usize = 4096;
+
+pub const GLABEL_TABLE: usize = 16384;
+
+pub const ID_TABLE: usize = 196608;
+
+pub const POSITION_TABLE: usize = 49152;
+
+pub const INDEX_TABLE: usize = 114688;
 
 pub const ELFCLASS32: u8 = 1;
 

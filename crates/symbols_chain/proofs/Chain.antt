@@ -5,9 +5,10 @@ use mathlib.Core.List.{List}
 use native.Mathlib.Omega.{arith}
 use lib.ListN.{length}
 use Rattle.base_fields.specs.declared.ByteOrder.{ByteOrder}
+use Rattle.base_scope.specs.Limits.{ID_LIMIT, ID_ROW}
 use Rattle.base_index.specs.Index.{hashOf}
 use Rattle.symbols_names.specs.declared.Sources.{Sources}
-use Rattle.symbols_rows.specs.Rows.{ID_LIMIT, ID_ROW, idHash, RowsOf}
+use Rattle.symbols_rows.specs.Rows.{idHash, RowsOf}
 use Rattle.symbols_rows.specs.Steps.{idsListed, Listing, Positions}
 use Rattle.symbols_rows.proofs.Rows.{row-fields}
 use Rattle.symbols_rows.proofs.Tables.{rows-of, list-of, positions-of}

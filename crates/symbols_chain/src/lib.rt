@@ -2,8 +2,9 @@
 // leaves: specs/Chain.antt; what that is of the candidates of the merge (crate symbols_ids): proofs/Result.antt. Document 01, "Symbols".
 ghost use Prim.Native.Nat.{_*_, _≤_};
 ghost use lib.ListN.{length};
+ghost use Rattle.base_scope.specs.Limits.{ID_LIMIT, ID_ROW};
 ghost use Rattle.base_index.specs.Index.{Room};
-ghost use Rattle.symbols_rows.specs.Rows.{ID_LIMIT, ID_ROW, HoldersOf};
+ghost use Rattle.symbols_rows.specs.Rows.{HoldersOf};
 ghost use Rattle.symbols_holders.specs.Ready.{idCount, symbolsIn, HoldersReady};
 ghost use Rattle.symbols_numbers.specs.Numbers.{Tables, HoldersFirst, IdRoom};
 ghost use Rattle.symbols_fill.specs.Fill.{FillReady};
@@ -11,6 +12,13 @@ ghost use Rattle.symbols_chain.specs.Chain.{SymbolsListed, SymbolsNumber
 use base_fields::ByteOrder;
 use symbols_fill::Filling;
 use symbols_names::Sources;
+
+// What is in hand of the result's symbols: what they were filled by, how many of its entries are local and how many it has, entry 0 counted in both.
+pub struct Numbering {
+    pub filling: Filling,
+    pub locals: usize,
+    pub count: usize,
+}
 
 // Leaves the rows of all ids and the list of those that are taken, and answers how many positions it has. Neither table needs particular contents.
 pub fn list_symbols<'a>(

@@ -8,6 +8,7 @@ use lib.ListN.{length}
 use Rattle.base_lists.specs.Windows.{Within}
 use Rattle.base_fields.specs.declared.ByteOrder.{ByteOrder}
 use Rattle.base_packed.specs.Packed.{bindingOf}
+use Rattle.base_scope.specs.Limits.{ID_ROW}
 use Rattle.base_index.specs.Index.{hashOf}
 use Rattle.base_scope.specs.Codes.{LATE_TARGET}
 use Rattle.elf_records.specs.declared.symbol.SymbolEntry.{SymbolEntry}
@@ -25,7 +26,7 @@ use Rattle.symbols_taken.specs.Code.{usedBytes}
 use Rattle.symbols_ids.specs.Entries.{entryA}
 use Rattle.symbols_ids.specs.Ids.{byOrigin, nameOf, entryStatic, entryOf, candidates}
 use Rattle.symbols_names.proofs.Names.{ids-held}
-use Rattle.symbols_rows.specs.Rows.{ID_ROW, idHash, RowsOf, ListOf}
+use Rattle.symbols_rows.specs.Rows.{idHash, RowsOf, ListOf}
 use Rattle.symbols_rows.proofs.Rows.{row-fields}
 use Rattle.symbols_rows.proofs.Tables.{rows-of, filled-agree}
 use Rattle.symbols_holders.specs.Ready.{idCount, idName, symbolsIn, HoldersReady}

@@ -5,9 +5,10 @@ use mathlib.Core.List.{List}
 use native.Mathlib.Omega.{arith}
 use lib.ListN.{length}
 use Rattle.base_lists.specs.Windows.{spliced}
+use Rattle.base_scope.specs.Limits.{ID_LIMIT, ID_ROW}
 use Rattle.symbols_names.proofs.Names.{rows-held}
 use Rattle.symbols_rows.specs.declared.IdRow.{IdRow}
-use Rattle.symbols_rows.specs.Rows.{ID_LIMIT, ID_ROW, idRow, idRowBytes}
+use Rattle.symbols_rows.specs.Rows.{idRow, idRowBytes}
 use Rattle.symbols_rows.proofs.Rows.{filled-none, filled-next, written-long}
 use Rattle.symbols_holders.specs.Ready.{idCount}
 use Rattle.symbols_fill.specs.declared.Filling.{Filling}

@@ -11,6 +11,7 @@ use borrow.Author.Tests.{eq-eqb, ne-eqb, eqb-false}
 use Rattle.base_lists.specs.Ranges.{first}
 use Rattle.base_lists.specs.Strings.{same}
 use Rattle.base_lists.proofs.Ranges.{by-test, first-to, first-low}
+use Rattle.base_scope.specs.Limits.{ID_LIMIT}
 use Rattle.base_groups.specs.Holders.{holder}
 use Rattle.base_groups.proofs.Holders.{holder-alike}
 use Rattle.base_fields.specs.declared.ByteOrder.{ByteOrder}
@@ -22,7 +23,7 @@ use Rattle.symbols_merge.specs.Listed.{listed, listedAt, isAlike, holderOf}
 use Rattle.symbols_merge.proofs.Names.{alike-named, alike-name, unnamed-one, alike-parts}
 use Rattle.symbols_names.specs.declared.Sources.{Sources}
 use Rattle.symbols_rows.specs.declared.IdRow.{IdRow}
-use Rattle.symbols_rows.specs.Rows.{ID_LIMIT, idUnnamed, idHash, idRow, candidatesIn, RowsOf, wordIn, ListOf}
+use Rattle.symbols_rows.specs.Rows.{idUnnamed, idHash, idRow, candidatesIn, RowsOf, wordIn, ListOf}
 use Rattle.symbols_rows.specs.Steps.{idsListed, Position}
 use Rattle.symbols_rows.proofs.Rows.{row-fields}
 use Rattle.symbols_rows.proofs.Listing.{listed-names, listed-few}

@@ -10,12 +10,13 @@ use Rattle.base_lists.proofs.Windows.{drop-spliced}
 use Rattle.base_fields.specs.declared.ByteOrder.the-variants.{Big}
 use Rattle.base_fields.specs.Numbers.{encoded}
 use Rattle.base_fields.proofs.Numbers.{length-encoded}
+use Rattle.base_scope.specs.Limits.{ID_LIMIT}
 use Rattle.base_index.specs.Index.{hashPlace, Built}
 use Rattle.base_index.proofs.Table.{withWord, word-long, word-same, word-other, hash-same, hash-other}
 use Rattle.symbols_merge.specs.Candidates.{Candidates}
 use Rattle.symbols_merge.specs.Listed.{holderOf}
 use Rattle.symbols_rows.specs.declared.IdRow.{IdRow}
-use Rattle.symbols_rows.specs.Rows.{ID_LIMIT, idHash, idRow, wordIn}
+use Rattle.symbols_rows.specs.Rows.{idHash, idRow, wordIn}
 use Rattle.symbols_rows.proofs.Rows.{row-fields}
 use Rattle.symbols_holders.specs.Ready.{Hashed, ListIndexed, NamesHeld}
 

@@ -8,6 +8,7 @@ use lib.ListN.{length, drop}
 use lib.Dec.{eqb}
 use Rattle.base_lists.specs.Strings.{same}
 use Rattle.base_fields.specs.declared.ByteOrder.{ByteOrder}
+use Rattle.base_scope.specs.Limits.{ID_LIMIT}
 use Rattle.base_index.specs.Index.{hashOf, hashPlace, hashIn, Indexed}
 use Rattle.statics_table.specs.Table.{staticsIn}
 use Rattle.symbols_merge.specs.Candidates.{Candidates}
@@ -15,7 +16,7 @@ use Rattle.symbols_merge.specs.Listed.{listed}
 use Rattle.symbols_ids.specs.Ids.{nameOf}
 use Rattle.symbols_names.specs.declared.Sources.{Sources}
 use Rattle.symbols_names.specs.Names.{firstIn, SourcesRead}
-use Rattle.symbols_rows.specs.Rows.{ID_LIMIT, idHash, candidatesIn, RowsOf, wordIn, ListOf, HoldersOf}
+use Rattle.symbols_rows.specs.Rows.{idHash, candidatesIn, RowsOf, wordIn, ListOf, HoldersOf}
 
 -- each of the first m items of the index has the hash of its position's id
 pub record Hashed (T L I : List ℕ) (m : ℕ) : Type 0 where

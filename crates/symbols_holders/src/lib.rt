@@ -9,20 +9,15 @@ ghost use Rattle.base_lists.specs.Windows.{spliced};
 ghost use Rattle.base_fields.specs.declared.ByteOrder.the-variants.{Big};
 ghost use Rattle.base_fields.specs.Numbers.{encoded};
 ghost use Rattle.base_index.specs.Index.{HASH_BYTES, mixedByte, mixed, hashOf, hashPlace, Room};
-ghost use Rattle.base_scope.specs.Limits.{STATIC_LIMIT};
+ghost use Rattle.base_scope.specs.Limits.{STATIC_LIMIT, ID_LIMIT};
 ghost use Rattle.statics_table.specs.Statics.{countTail};
 ghost use Rattle.symbols_merge.specs.Listed.{holderOf};
 ghost use Rattle.symbols_names.specs.Names.{SourcesRead};
-ghost use Rattle.symbols_rows.specs.Rows.{ID_LIMIT, idHash, wordIn};
+ghost use Rattle.symbols_rows.specs.Rows.{idHash, wordIn};
 ghost use Rattle.symbols_rows.specs.Steps.{Position, Positions};
 ghost use Rattle.symbols_holders.specs.Ready.{Hashed, ListIndexed, PositionHeld, alikeIn, idCount, idName, symbolsIn, HoldersReady, PositionReady, NamesHeld};
 use base_fields::ByteOrder;
 use symbols_names::Sources;
-
-// The most ids: both objects' symbols and the statics.
-pub const ID_LIMIT: usize = base_scope::SYMBOL_LIMIT
-    + base_scope::SYMBOL_LIMIT
-    + base_scope::STATIC_LIMIT;
 
 // How many bytes of a name are hashed behind its first n.
 fn room_behind(n: usize) -> usize
@@ -115,7 +110,7 @@ pub fn index_list(rows: &[u8], list: &[u8], m: usize, index: &mut [u8])
     ensures { λ _. ⌜ ListIndexed (now (rows .entry)) (now (list .entry)) (now (index .exit)) m ⌝ }
 {
     put_hashes(rows, list, m, index);
-    base_index::build(index, ID_LIMIT, m);
+    base_index::build(index, base_scope::ID_LIMIT, m);
 }
 
 // Whether position k has the name of position p: names are read only where the hashes agree.
@@ -161,7 +156,7 @@ pub fn holder_at<'a>(
     if row.unnamed {
         return p;
     }
-    let mut k = base_index::head_of(index, ID_LIMIT, row.hash);
+    let mut k = base_index::head_of(index, base_scope::ID_LIMIT, row.hash);
     while k < p {
         if is_alike(
             order,
@@ -176,7 +171,7 @@ pub fn holder_at<'a>(
         ) {
             return k;
         }
-        k = base_index::next_of(index, ID_LIMIT, k);
+        k = base_index::next_of(index, base_scope::ID_LIMIT, k);
     }
     p
 }

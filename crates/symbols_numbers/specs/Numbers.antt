@@ -11,9 +11,10 @@ use Rattle.base_lists.specs.Windows.{spliced}
 use Rattle.base_fields.specs.declared.ByteOrder.the-variants.{Big}
 use Rattle.base_fields.specs.Numbers.{encoded}
 use Rattle.base_scope.specs.Elf.{STB_LOCAL}
+use Rattle.base_scope.specs.Limits.{ID_LIMIT}
 use Rattle.base_groups.specs.Groups.{inGroup, grouped, groupedPlace}
 use Rattle.symbols_merge.specs.Merged.{RESULT-GROUPS, LOCAL-GROUPS}
-use Rattle.symbols_rows.specs.Rows.{ID_LIMIT, wordIn, resultGroupIn}
+use Rattle.symbols_rows.specs.Rows.{wordIn, resultGroupIn}
 use Rattle.symbols_rows.specs.Steps.{Holders}
 use Rattle.symbols_numbers.specs.declared.NewSymbol.{NewSymbol}
 use Rattle.symbols_numbers.specs.declared.NewSymbol.the-variants.{Merged, Gone}

@@ -17,8 +17,9 @@ use Rattle.base_lists.proofs.Records.{length-flat, within-flat}
 use Rattle.base_fields.specs.declared.ByteOrder.the-variants.{Big}
 use Rattle.base_fields.specs.Numbers.{number, encoded}
 use Rattle.base_fields.proofs.Numbers.{length-encoded, within-number, number-outside}
+use Rattle.base_scope.specs.Limits.{ID_ROW}
 use Rattle.symbols_rows.specs.declared.IdRow.{IdRow}
-use Rattle.symbols_rows.specs.Rows.{ID_ROW, kindWord, idKind, idTaken, idUnnamed, idGpDisp, idBinding, idSection, idValue, idHash, idRow, idRowBytes, wordIn, wordsIn}
+use Rattle.symbols_rows.specs.Rows.{kindWord, idKind, idTaken, idUnnamed, idGpDisp, idBinding, idSection, idValue, idHash, idRow, idRowBytes, wordIn, wordsIn}
 
 -- ---- the kind word
 

@@ -17,6 +17,7 @@ use Rattle.base_lists.proofs.Windows.{within-spliced, length-spliced}
 use Rattle.base_fields.specs.declared.ByteOrder.the-variants.{Big}
 use Rattle.base_fields.specs.Numbers.{encoded}
 use Rattle.base_fields.proofs.Numbers.{length-encoded}
+use Rattle.base_scope.specs.Limits.{ID_LIMIT, ID_ROW}
 use Rattle.base_groups.proofs.Holders.{holder-lt}
 use Rattle.base_scope.specs.Text.{text}
 use Rattle.base_scope.specs.Elf.{SHN_UNDEF, STB_LOCAL}
@@ -27,7 +28,7 @@ use Rattle.symbols_merge.proofs.Names.{alike-parts}
 use Rattle.symbols_merge.proofs.Merged.{listed-taken}
 use Rattle.symbols_merge.proofs.Agree.{Agree}
 use Rattle.symbols_rows.specs.declared.IdRow.{IdRow}
-use Rattle.symbols_rows.specs.Rows.{ID_LIMIT, ID_ROW, idTaken, idUnnamed, idBinding, idSection, candidatesIn, RowsOf, wordIn, wordsIn, ListOf, HoldersOf, looseIn, elsewhereIn}
+use Rattle.symbols_rows.specs.Rows.{idTaken, idUnnamed, idBinding, idSection, candidatesIn, RowsOf, wordIn, wordsIn, ListOf, HoldersOf, looseIn, elsewhereIn}
 use Rattle.symbols_rows.specs.Steps.{idsListed, Listing, Positions, Holders, verdictIn}
 use Rattle.symbols_rows.proofs.Rows.{row-fields, Filled, words-read}
 use Rattle.symbols_rows.proofs.Listing.{listed-names, listed-few}

@@ -11,17 +11,10 @@ use Rattle.base_lists.specs.Records.{flat}
 use Rattle.base_fields.specs.declared.ByteOrder.the-variants.{Big}
 use Rattle.base_fields.specs.Numbers.{number, encoded}
 use Rattle.base_scope.specs.Elf.{SHN_UNDEF, STB_LOCAL}
-use Rattle.base_scope.specs.Limits.{SYMBOL_LIMIT, STATIC_LIMIT}
+use Rattle.base_scope.specs.Limits.{ID_LIMIT, ID_ROW}
 use Rattle.symbols_merge.specs.Candidates.{Candidates, isUnnamed, isGpDisp}
 use Rattle.symbols_merge.specs.Listed.{listed, holderOf}
 use Rattle.symbols_rows.specs.declared.IdRow.{IdRow}
-
--- C's and A's symbols and the statics
-abbrev pub ID_LIMIT : ℕ
-ID_LIMIT = SYMBOL_LIMIT + SYMBOL_LIMIT + STATIC_LIMIT
-
-abbrev pub ID_ROW : ℕ
-ID_ROW = 16
 
 -- what an id is, as one word: whether it is taken, unnamed, `_gp_disp`, and its binding
 unfoldable pub kindWord : Bool → Bool → Bool → ℕ → ℕ

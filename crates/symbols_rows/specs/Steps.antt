@@ -12,11 +12,12 @@ use Rattle.base_fields.specs.declared.ByteOrder.the-variants.{Big}
 use Rattle.base_fields.specs.Numbers.{encoded}
 use Rattle.base_scope.specs.Elf.{SHN_UNDEF}
 use Rattle.base_scope.specs.Refusals.{LOOSE_SYMBOL, NAME_TWICE, foundBelow}
+use Rattle.base_scope.specs.Limits.{ID_ROW}
 use Rattle.base_answers.specs.declared.Verdict.{Verdict}
 use Rattle.base_answers.specs.Answers.{NONE}
 use Rattle.base_answers.specs.Verdicts.{also, findingVerdict}
 use Rattle.symbols_merge.specs.Listed.{listed}
-use Rattle.symbols_rows.specs.Rows.{ID_ROW, idTaken, idSection, candidatesIn, wordIn, looseIn, elsewhereIn}
+use Rattle.symbols_rows.specs.Rows.{idTaken, idSection, candidatesIn, wordIn, looseIn, elsewhereIn}
 
 -- the group in the list of an id of this section
 unfoldable pub sectionGroup : ℕ → ℕ

@@ -8,14 +8,12 @@ ghost use lib.ListN.{length};
 ghost use Rattle.base_lists.specs.Ranges.{first, pickList};
 ghost use Rattle.base_lists.specs.Windows.{spliced};
 ghost use Rattle.base_scope.specs.Refusals.{foundBelow};
-ghost use Rattle.symbols_rows.specs.Rows.{ID_LIMIT, ID_ROW, kindWord, idRow, idRowBytes, wordIn, looseIn, elsewhereIn};
+ghost use Rattle.base_scope.specs.Limits.{ID_LIMIT, ID_ROW};
+ghost use Rattle.symbols_rows.specs.Rows.{kindWord, idRow, idRowBytes, wordIn, looseIn, elsewhereIn};
 ghost use Rattle.symbols_rows.specs.Steps.{sectionGroup, inList, idsOf, idsListed, Listing, Position, Held, Positions, Holders, verdictIn};
 use base_answers::Verdict;
 use base_fields::ByteOrder;
 use base_scope::Finding;
-
-// The bytes of a row.
-pub const ID_ROW: usize = 16;
 
 // What the merge asks of an id: whether it is taken, has no name, or the name `_gp_disp`; its binding; its section and value in the result; the hash of its name.
 pub struct IdRow {
@@ -49,7 +47,7 @@ pub fn write_id(rows: &mut [u8], i: usize, row: IdRow)
     ensures { λ _. ⌜ now (rows .exit) ≡ spliced (now (rows .entry)) (ID_ROW * i) (idRowBytes row) ⌝ }
 {
     let words = [kind_word(row), row.section, row.value, row.hash];
-    base_fields::write_words(ByteOrder::Big, rows, ID_ROW * i, &words);
+    base_fields::write_words(ByteOrder::Big, rows, base_scope::ID_ROW * i, &words);
 }
 
 // Row i.
@@ -57,15 +55,15 @@ pub fn id_at(rows: &[u8], i: usize) -> IdRow
     requires { ⌜ ID_ROW * i + ID_ROW ≤ length (now rows) ⌝ }
     ensures { λ r. ⌜ r ≡ idRow (now (rows .entry)) i ⌝ }
 {
-    let kind = base_fields::read32(ByteOrder::Big, rows, ID_ROW * i);
+    let kind = base_fields::read32(ByteOrder::Big, rows, base_scope::ID_ROW * i);
     IdRow {
         taken: kind % 2 == 1,
         unnamed: kind / 2 % 2 == 1,
         gp_disp: kind / 4 % 2 == 1,
         binding: kind / 8,
-        section: base_fields::read32(ByteOrder::Big, rows, ID_ROW * i + 4),
-        value: base_fields::read32(ByteOrder::Big, rows, ID_ROW * i + 8),
-        hash: base_fields::read32(ByteOrder::Big, rows, ID_ROW * i + 12),
+        section: base_fields::read32(ByteOrder::Big, rows, base_scope::ID_ROW * i + 4),
+        value: base_fields::read32(ByteOrder::Big, rows, base_scope::ID_ROW * i + 8),
+        hash: base_fields::read32(ByteOrder::Big, rows, base_scope::ID_ROW * i + 12),
     }
 }
 

@@ -3,8 +3,8 @@ use Prim.Native.Nat.{_-_}
 use native.Mathlib.Omega.{arith}
 use denote.Ref.{now}
 use borrow.Author.Needs.{needs}
+use Rattle.base_scope.specs.Limits.{ID_LIMIT}
 use Rattle.base_index.proofs.Index.{next-far}
-use Rattle.symbols_rows.specs.Rows.{ID_LIMIT}
 use Rattle.symbols_holders.proofs.Holders.{Walked, position-here, position-held, own-unnamed, walk-first, walk-here, walk-next, walk-own}
 use Rattle.symbols_holders.proofs.holder_at.Statement.{statement}
 use Rattle.symbols_holders.proofs.holder_at.Tie as tie

@@ -1,5 +1,6 @@
 -- The four words that are written are the bytes of the row. Assumes nothing.
-use Rattle.symbols_rows.specs.Rows.{ID_ROW, idRowBytes}
+use Rattle.base_scope.specs.Limits.{ID_ROW}
+use Rattle.symbols_rows.specs.Rows.{idRowBytes}
 use Rattle.base_lists.specs.Records.{flat}
 use Rattle.base_lists.specs.Windows.{spliced}
 use Rattle.base_fields.specs.declared.ByteOrder.the-variants.{Big}

@@ -1,0 +1,95 @@
+-- Of the code, not of document 01: the working buffers of a merge. Each of the four holds tables that are written one behind the other, in this order, and then only read;
+-- a table is never written while another one of its buffer is read (docs/SIZES.md).
+use Prim.Native.Nat.{ℕ, _+_}
+use mathlib.Core.Path.{_≡_}
+use mathlib.Core.List.{List}
+use lib.ListN.{length, take, drop}
+use Rattle.base_scope.specs.Limits.{BLOCK_TABLE, PLACE_TABLE, LATE_TABLE, STATIC_TABLE, USED_TABLE, GLABEL_TABLE, ID_TABLE, POSITION_TABLE, INDEX_TABLE}
+
+-- ---- where tables start, and how long the buffers are
+
+-- the table of blocks, then the rows of the ids
+abbrev pub ROWS_AT : ℕ
+ROWS_AT = BLOCK_TABLE
+
+abbrev pub BLOCK_BUFFER : ℕ
+BLOCK_BUFFER = ROWS_AT + ID_TABLE
+
+-- the places, then the holders
+abbrev pub HOLDERS_AT : ℕ
+HOLDERS_AT = PLACE_TABLE
+
+abbrev pub PLACE_BUFFER : ℕ
+PLACE_BUFFER = HOLDERS_AT + POSITION_TABLE
+
+-- the late step, the marks of used symbols, the statics, the glabels, the list
+abbrev pub USED_AT : ℕ
+USED_AT = LATE_TABLE
+
+abbrev pub STATICS_AT : ℕ
+STATICS_AT = USED_AT + USED_TABLE
+
+abbrev pub GLABELS_AT : ℕ
+GLABELS_AT = STATICS_AT + STATIC_TABLE
+
+abbrev pub LIST_AT : ℕ
+LIST_AT = GLABELS_AT + GLABEL_TABLE
+
+abbrev pub STEP_BUFFER : ℕ
+STEP_BUFFER = LIST_AT + POSITION_TABLE
+
+-- the index by hash, of A's symbols and then of the list; behind its last use, over it, the order of the result and the numbers of the ids, then spans of a section
+abbrev pub NUMBERS_AT : ℕ
+NUMBERS_AT = POSITION_TABLE
+
+abbrev pub SPANS_AT : ℕ
+SPANS_AT = NUMBERS_AT + POSITION_TABLE
+
+abbrev pub INDEX_BUFFER : ℕ
+INDEX_BUFFER = INDEX_TABLE
+
+-- ---- the tables
+
+-- the part of `size` bytes that starts at `at`
+abbrev pub partAt : ℕ → ℕ → List ℕ → List ℕ
+partAt at size l = take size (drop at l)
+
+abbrev pub blockTable : List ℕ → List ℕ
+blockTable l = partAt 0 BLOCK_TABLE l
+
+abbrev pub idTable : List ℕ → List ℕ
+idTable l = partAt ROWS_AT ID_TABLE l
+
+abbrev pub placeTable : List ℕ → List ℕ
+placeTable l = partAt 0 PLACE_TABLE l
+
+abbrev pub holderTable : List ℕ → List ℕ
+holderTable l = partAt HOLDERS_AT POSITION_TABLE l
+
+abbrev pub lateTable : List ℕ → List ℕ
+lateTable l = partAt 0 LATE_TABLE l
+
+abbrev pub usedTable : List ℕ → List ℕ
+usedTable l = partAt USED_AT USED_TABLE l
+
+abbrev pub staticTable : List ℕ → List ℕ
+staticTable l = partAt STATICS_AT STATIC_TABLE l
+
+abbrev pub glabelTable : List ℕ → List ℕ
+glabelTable l = partAt GLABELS_AT GLABEL_TABLE l
+
+abbrev pub listTable : List ℕ → List ℕ
+listTable l = partAt LIST_AT POSITION_TABLE l
+
+abbrev pub orderTable : List ℕ → List ℕ
+orderTable l = partAt 0 POSITION_TABLE l
+
+abbrev pub numberTable : List ℕ → List ℕ
+numberTable l = partAt NUMBERS_AT POSITION_TABLE l
+
+-- ---- writing a table
+
+-- what stands before `at` stays, and so does the length
+pub record KeptBefore (at : ℕ) (before after : List ℕ) : Type 0 where
+  pub front : take at after ≡ take at before
+  pub long : length after ≡ length before

@@ -1,0 +1,25 @@
+// The working buffers of a merge: where each table starts in its buffer, and the least length of each buffer. The definitions in specs/Buffers.antt have the same names; a
+// contract that cites one holds the constant here to it.
+pub const ROWS_AT: usize = 49152;
+
+pub const BLOCK_BUFFER: usize = 245760;
+
+pub const HOLDERS_AT: usize = 32768;
+
+pub const PLACE_BUFFER: usize = 81920;
+
+pub const USED_AT: usize = 291920;
+
+pub const STATICS_AT: usize = 296016;
+
+pub const GLABELS_AT: usize = 394320;
+
+pub const LIST_AT: usize = 410704;
+
+pub const STEP_BUFFER: usize = 459856;
+
+pub const NUMBERS_AT: usize = 49152;
+
+pub const SPANS_AT: usize = 98304;
+
+pub const INDEX_BUFFER: usize = 114688;
