@@ -1,6 +1,6 @@
 -- Of the code, not of document 01: the working buffers of a merge. Each of the four holds tables that are written one behind the other, in this order, and then only read;
 -- a table is never written while another one of its buffer is read (docs/SIZES.md).
-use Prim.Native.Nat.{ℕ, _+_}
+use Prim.Native.Nat.{ℕ, _+_, _≤_}
 use mathlib.Core.Path.{_≡_}
 use mathlib.Core.List.{List}
 use lib.ListN.{length, take, drop}
@@ -50,9 +50,12 @@ INDEX_BUFFER = INDEX_TABLE
 
 -- ---- the tables
 
--- the part of `size` bytes that starts at `at`
-abbrev pub partAt : ℕ → ℕ → List ℕ → List ℕ
+-- the part of `size` bytes that starts at `at`, and what stands before `at`
+unfoldable pub partAt : ℕ → ℕ → List ℕ → List ℕ
 partAt at size l = take size (drop at l)
+
+unfoldable pub frontOf : ℕ → List ℕ → List ℕ
+frontOf at l = take at l
 
 abbrev pub blockTable : List ℕ → List ℕ
 blockTable l = partAt 0 BLOCK_TABLE l
@@ -87,9 +90,16 @@ orderTable l = partAt 0 POSITION_TABLE l
 abbrev pub numberTable : List ℕ → List ℕ
 numberTable l = partAt NUMBERS_AT POSITION_TABLE l
 
+-- the buffers are long enough
+pub record BuffersHeld (table places steps index : List ℕ) : Type 0 where
+  pub table-long : BLOCK_BUFFER ≤ length table
+  pub places-long : PLACE_BUFFER ≤ length places
+  pub steps-long : STEP_BUFFER ≤ length steps
+  pub index-long : INDEX_BUFFER ≤ length index
+
 -- ---- writing a table
 
 -- what stands before `at` stays, and so does the length
 pub record KeptBefore (at : ℕ) (before after : List ℕ) : Type 0 where
-  pub front : take at after ≡ take at before
+  pub front : frontOf at after ≡ frontOf at before
   pub long : length after ≡ length before

@@ -1,0 +1,296 @@
+// The symbols of a merge behind its late step, in document 01's order of refusals: 15 and 16, 17, then 18 and 19 over the list, and the numbers of the result. Tables stand in
+// the working buffers of `merge_buffers`; what each function leaves in them is in specs/Stage.antt. `merge_symbols` equals `symbolStagesVerdict` of specs/Verdict.antt.
+ghost use mathlib.Core.Path.{_≡_};
+ghost use Prim.Native.Nat.{_≤_};
+ghost use lib.ListN.{length};
+ghost use Rattle.base_lists.specs.Windows.{Within};
+ghost use Rattle.base_scope.specs.Limits.{FILE_LIMIT, HEAD_LIMIT};
+ghost use Rattle.elf_readers.specs.Bounds.{Named};
+ghost use Rattle.elf_check.specs.View.{viewOf, Viewed};
+ghost use Rattle.elf_symbols.specs.Symbols.{Table};
+ghost use Rattle.blocks_file.specs.Blocks.{blockCount};
+ghost use Rattle.blocks_places.specs.Lines.{lineCount};
+ghost use Rattle.blocks_places.specs.Table.{placesIn, Laid};
+ghost use Rattle.symbols_taken.specs.Code.{usedBytes, LateIn, takenIn};
+ghost use Rattle.symbols_rows.specs.Steps.{Holders, verdictIn};
+ghost use Rattle.symbols_holders.specs.Ready.{symbolsIn, HoldersReady};
+ghost use Rattle.symbols_numbers.specs.Numbers.{Tables, HoldersFirst, groupStarts};
+ghost use Rattle.symbols_fill.specs.Fill.{FillReady};
+ghost use Rattle.merge_buffers.specs.Buffers.{BLOCK_BUFFER, PLACE_BUFFER, STEP_BUFFER, blockTable, idTable, placeTable, holderTable, lateTable, usedTable, staticTable, listTable, orderTable, numberTable, BuffersHeld};
+ghost use Rattle.symbols_chain.specs.Chain.{SymbolsNumbered};
+ghost use Rattle.symbols_stage.specs.Stage.{SymbolsTaken, StaticsRead, GlabelsRead, IdsFilledIn, IdsListedIn, IdsHeldIn, IdRooms, OrderLeft, NumbersLeft};
+use base_answers::Verdict;
+use merge_inputs::Inputs;
+use merge_sections::Stage;
+use statics_walk::Listing;
+use symbols_fill::Filling;
+
+// Refusals 15 and 16, by the marks.
+fn taken_verdict(assembled: &[u8], stage: Stage, steps: &[u8]) -> Verdict
+    requires { ⌜ Viewed (stage .inputs .order) (now assembled) (stage .inputs .assembled) × Within (usedBytes (stage .inputs .order) (now assembled)) 0 (usedTable (now steps))
+        × LateIn (stage .step .runs) (lateTable (now steps)) (stage .inputs .blocks) × (STEP_BUFFER ≤ length (now steps)) ⌝ }
+    ensures { λ r. ⌜ r ≡ takenIn (stage .inputs .compiled) (stage .inputs .assembled) (stage .inputs .order) (now (assembled .entry)) (stage .step .runs) (lateTable (now (steps .entry))) (stage .inputs .blocks) ⌝ }
+{
+    let late = merge_buffers::part(steps, 0, base_scope::LATE_TABLE);
+    let used = merge_buffers::part(steps, merge_buffers::USED_AT, base_scope::USED_TABLE);
+    symbols_taken::taken_verdict(assembled, stage.inputs, stage.step, late, used)
+}
+
+// Marks the used symbols: refusals 15 and 16.
+fn take_symbols(assembled: &[u8], stage: Stage, steps: &mut [u8]) -> Verdict
+    requires { ⌜ Viewed (stage .inputs .order) (now assembled) (stage .inputs .assembled) × LateIn (stage .step .runs) (lateTable (now steps)) (stage .inputs .blocks)
+        × (STEP_BUFFER ≤ length (now steps)) ⌝ }
+    ensures { λ r. ⌜ SymbolsTaken (now (assembled .entry)) stage r (now (steps .entry)) (now (steps .exit)) ⌝ }
+{
+    let inputs = stage.inputs;
+    let order = inputs.order;
+    let from = merge_buffers::bound(merge_buffers::USED_AT);
+    let to = merge_buffers::bound(merge_buffers::STATICS_AT);
+    symbols_taken::mark_used(order, assembled, inputs.assembled, &mut steps[from..to]);
+    taken_verdict(assembled, stage, steps)
+}
+
+// Lists the statics: refusal 17.
+fn read_statics(compiled: &[u8], inputs: Inputs, mode: u32, head: u32, steps: &mut [u8]) -> Listing
+    requires { ⌜ Named (inputs .order) (now compiled) × (length (now compiled) ≤ FILE_LIMIT) × (inputs .compiled ≡ viewOf (inputs .order) (now compiled)) × (head ≤ HEAD_LIMIT)
+        × (STEP_BUFFER ≤ length (now steps)) ⌝ }
+    ensures { λ r. ⌜ StaticsRead (now (compiled .entry)) (inputs .order) mode head r (now (steps .entry)) (now (steps .exit)) ⌝ }
+{
+    let order = inputs.order;
+    let from = merge_buffers::bound(merge_buffers::STATICS_AT);
+    let to = merge_buffers::bound(merge_buffers::GLABELS_AT);
+    statics_walk::list_statics(
+        order,
+        compiled,
+        inputs.compiled,
+        mode,
+        head,
+        &mut steps[from..to],
+    )
+}
+
+// Indexes A's symbols, and leaves the words of the glabels.
+fn read_glabels(
+    assembled: &[u8],
+    file: &[u8],
+    inputs: Inputs,
+    table: &[u8],
+    places: &[u8],
+    steps: &mut [u8],
+    index: &mut [u8],
+)
+    requires { ⌜ Table (inputs .order) (now assembled) (inputs .assembled .symbols)
+        × Laid (placesIn (placeTable (now places)) (lineCount (now file))) (now file) (blockTable (now table)) (placeTable (now places))
+        × (inputs .blocks ≡ blockCount (now file)) × BuffersHeld (now table) (now places) (now steps) (now index) ⌝ }
+    ensures { λ _. ⌜ GlabelsRead (now (assembled .entry)) (now (file .entry)) (inputs .order) (placesIn (placeTable (now (places .entry))) (lineCount (now (file .entry)))) (now (steps .entry)) (now (steps .exit)) ⌝ }
+{
+    let order = inputs.order;
+    let source = inputs.assembled;
+    let symbols = source.symbols;
+    symbols_glabels::index_symbols(order, assembled, symbols, index);
+    let blocks = merge_buffers::part(table, 0, base_scope::BLOCK_TABLE);
+    let lines = merge_buffers::part(places, 0, base_scope::PLACE_TABLE);
+    let from = merge_buffers::bound(merge_buffers::GLABELS_AT);
+    let to = merge_buffers::bound(merge_buffers::LIST_AT);
+    symbols_glabels::mark_glabels(
+        order,
+        assembled,
+        symbols,
+        file,
+        blocks,
+        lines,
+        inputs.blocks,
+        index,
+        &mut steps[from..to],
+    );
+}
+
+// Writes the rows of all ids, and answers how many there are.
+fn fill_table<'a>(
+    compiled: &'a [u8],
+    assembled: &'a [u8],
+    filling: Filling,
+    table: &mut [u8],
+    steps: &[u8],
+) -> usize
+    requires { ⌜ FillReady (now compiled) (now assembled) (staticTable (now steps)) (usedTable (now steps)) (lateTable (now steps)) filling × (BLOCK_BUFFER ≤ length (now table))
+        × (STEP_BUFFER ≤ length (now steps)) ⌝ }
+    ensures { λ r. ⌜ IdsFilledIn (now (compiled .entry)) (now (assembled .entry)) filling r (now (steps .entry)) (now (table .entry)) (now (table .exit)) ⌝ }
+{
+    let statics = merge_buffers::part(steps, merge_buffers::STATICS_AT, base_scope::STATIC_TABLE);
+    let used = merge_buffers::part(steps, merge_buffers::USED_AT, base_scope::USED_TABLE);
+    let late = merge_buffers::part(steps, 0, base_scope::LATE_TABLE);
+    let from = merge_buffers::bound(merge_buffers::ROWS_AT);
+    let to = merge_buffers::bound(merge_buffers::BLOCK_BUFFER);
+    symbols_fill::fill_rows(
+        compiled,
+        assembled,
+        statics,
+        used,
+        late,
+        filling,
+        &mut table[from..to],
+    )
+}
+
+// Leaves the rows of all ids and the list of those that are taken, and answers how many positions it has.
+fn list_symbols<'a>(
+    compiled: &'a [u8],
+    assembled: &'a [u8],
+    filling: Filling,
+    table: &mut [u8],
+    steps: &mut [u8],
+) -> usize
+    requires { ⌜ FillReady (now compiled) (now assembled) (staticTable (now steps)) (usedTable (now steps)) (lateTable (now steps)) filling × (BLOCK_BUFFER ≤ length (now table))
+        × (STEP_BUFFER ≤ length (now steps)) ⌝ }
+    ensures { λ r. ⌜ IdsListedIn (now (compiled .entry)) (now (assembled .entry)) filling r (now (table .entry)) (now (table .exit)) (now (steps .entry)) (now (steps .exit)) ⌝ }
+{
+    let n = fill_table(compiled, assembled, filling, table, steps);
+    let rows = merge_buffers::part(table, merge_buffers::ROWS_AT, base_scope::ID_TABLE);
+    let from = merge_buffers::bound(merge_buffers::LIST_AT);
+    let to = merge_buffers::bound(merge_buffers::STEP_BUFFER);
+    symbols_rows::list_ids(rows, n, &mut steps[from..to])
+}
+
+// Leaves the holders of the m positions of the list.
+fn hold_symbols<'a>(
+    compiled: &'a [u8],
+    assembled: &'a [u8],
+    filling: Filling,
+    m: usize,
+    table: &[u8],
+    steps: &[u8],
+    places: &mut [u8],
+    index: &mut [u8],
+)
+    requires { ⌜ HoldersReady (filling .inputs .order) (now compiled) (now assembled) (staticTable (now steps)) (filling .sources) (idTable (now table)) (listTable (now steps)) m
+        × BuffersHeld (now table) (now places) (now steps) (now index) ⌝ }
+    ensures { λ _. ⌜ IdsHeldIn (symbolsIn (filling .inputs .order) (now (compiled .entry)) (now (assembled .entry)) (staticTable (now (steps .entry))) (filling .sources) (idTable (now (table .entry)))) m
+        (now (places .entry)) (now (places .exit)) ⌝ }
+{
+    let inputs = filling.inputs;
+    let order = inputs.order;
+    let statics = merge_buffers::part(steps, merge_buffers::STATICS_AT, base_scope::STATIC_TABLE);
+    let rows = merge_buffers::part(table, merge_buffers::ROWS_AT, base_scope::ID_TABLE);
+    let list = merge_buffers::part(steps, merge_buffers::LIST_AT, base_scope::POSITION_TABLE);
+    let from = merge_buffers::bound(merge_buffers::HOLDERS_AT);
+    let to = merge_buffers::bound(merge_buffers::PLACE_BUFFER);
+    symbols_chain::hold_symbols(
+        order,
+        compiled,
+        assembled,
+        statics,
+        filling.sources,
+        rows,
+        list,
+        m,
+        index,
+        &mut places[from..to],
+    );
+}
+
+// Refusals 18 and 19, over the m positions of the list.
+fn list_verdict(m: usize, table: &[u8], steps: &[u8], places: &[u8]) -> Verdict
+    requires { ⌜ Holders (idTable (now table)) (listTable (now steps)) (holderTable (now places)) m × (BLOCK_BUFFER ≤ length (now table)) × (PLACE_BUFFER ≤ length (now places))
+        × (STEP_BUFFER ≤ length (now steps)) ⌝ }
+    ensures { λ r. ⌜ r ≡ verdictIn (idTable (now (table .entry))) (listTable (now (steps .entry))) (holderTable (now (places .entry))) m ⌝ }
+{
+    let rows = merge_buffers::part(table, merge_buffers::ROWS_AT, base_scope::ID_TABLE);
+    let list = merge_buffers::part(steps, merge_buffers::LIST_AT, base_scope::POSITION_TABLE);
+    let holders = merge_buffers::part(
+        places,
+        merge_buffers::HOLDERS_AT,
+        base_scope::POSITION_TABLE,
+    );
+    symbols_rows::symbols_verdict(rows, list, holders, m)
+}
+
+// Leaves the order of the result, over the index.
+fn order_result(
+    m: usize,
+    starts: [usize; symbols_numbers::STARTS],
+    table: &[u8],
+    steps: &[u8],
+    places: &[u8],
+    index: &mut [u8],
+)
+    requires { ⌜ Tables (idTable (now table)) (listTable (now steps)) (holderTable (now places)) m
+        × (starts ≡ groupStarts (idTable (now table)) (listTable (now steps)) (holderTable (now places)) m) × BuffersHeld (now table) (now places) (now steps) (now index) ⌝ }
+    ensures { λ _. ⌜ OrderLeft (idTable (now (table .entry))) (listTable (now (steps .entry))) (holderTable (now (places .entry))) m (now (index .exit)) ⌝ }
+{
+    let rows = merge_buffers::part(table, merge_buffers::ROWS_AT, base_scope::ID_TABLE);
+    let list = merge_buffers::part(steps, merge_buffers::LIST_AT, base_scope::POSITION_TABLE);
+    let holders = merge_buffers::part(
+        places,
+        merge_buffers::HOLDERS_AT,
+        base_scope::POSITION_TABLE,
+    );
+    let from = merge_buffers::bound(0);
+    let to = merge_buffers::bound(merge_buffers::NUMBERS_AT);
+    symbols_numbers::order_positions(rows, list, holders, m, starts, &mut index[from..to]);
+}
+
+// Leaves the numbers of the ids, behind the order.
+fn number_result(
+    m: usize,
+    starts: [usize; symbols_numbers::STARTS],
+    table: &[u8],
+    steps: &[u8],
+    places: &[u8],
+    index: &mut [u8],
+)
+    requires { ⌜ Tables (idTable (now table)) (listTable (now steps)) (holderTable (now places)) m × HoldersFirst (listTable (now steps)) (holderTable (now places)) m
+        × (starts ≡ groupStarts (idTable (now table)) (listTable (now steps)) (holderTable (now places)) m) × IdRooms (listTable (now steps)) m
+        × BuffersHeld (now table) (now places) (now steps) (now index) ⌝ }
+    ensures { λ _. ⌜ NumbersLeft (idTable (now (table .entry))) (listTable (now (steps .entry))) (holderTable (now (places .entry))) m (now (index .entry)) (now (index .exit)) ⌝ }
+{
+    let rows = merge_buffers::part(table, merge_buffers::ROWS_AT, base_scope::ID_TABLE);
+    let list = merge_buffers::part(steps, merge_buffers::LIST_AT, base_scope::POSITION_TABLE);
+    let holders = merge_buffers::part(
+        places,
+        merge_buffers::HOLDERS_AT,
+        base_scope::POSITION_TABLE,
+    );
+    let from = merge_buffers::bound(merge_buffers::NUMBERS_AT);
+    let to = merge_buffers::bound(merge_buffers::SPANS_AT);
+    symbols_numbers::number_ids(rows, list, holders, m, starts, &mut index[from..to]);
+}
+
+// Where the groups of the result start.
+fn result_starts(
+    m: usize,
+    table: &[u8],
+    steps: &[u8],
+    places: &[u8],
+) -> [usize; symbols_numbers::STARTS]
+    requires { ⌜ Tables (idTable (now table)) (listTable (now steps)) (holderTable (now places)) m × (BLOCK_BUFFER ≤ length (now table)) × (PLACE_BUFFER ≤ length (now places))
+        × (STEP_BUFFER ≤ length (now steps)) ⌝ }
+    ensures { λ r. ⌜ r ≡ groupStarts (idTable (now (table .entry))) (listTable (now (steps .entry))) (holderTable (now (places .entry))) m ⌝ }
+{
+    let rows = merge_buffers::part(table, merge_buffers::ROWS_AT, base_scope::ID_TABLE);
+    let list = merge_buffers::part(steps, merge_buffers::LIST_AT, base_scope::POSITION_TABLE);
+    let holders = merge_buffers::part(
+        places,
+        merge_buffers::HOLDERS_AT,
+        base_scope::POSITION_TABLE,
+    );
+    symbols_numbers::group_starts(rows, list, holders, m)
+}
+
+// Leaves the order of the result and the numbers of the ids, and answers where the groups of the result start.
+fn number_positions(
+    m: usize,
+    table: &[u8],
+    steps: &[u8],
+    places: &[u8],
+    index: &mut [u8],
+) -> [usize; symbols_numbers::STARTS]
+    requires { ⌜ Tables (idTable (now table)) (listTable (now steps)) (holderTable (now places)) m × HoldersFirst (listTable (now steps)) (holderTable (now places)) m
+        × IdRooms (listTable (now steps)) m × BuffersHeld (now table) (now places) (now steps) (now index) ⌝ }
+    ensures { λ r. ⌜ SymbolsNumbered (idTable (now (table .entry))) (listTable (now (steps .entry))) (holderTable (now (places .entry))) m r (orderTable (now (index .exit))) (numberTable (now (index .exit))) ⌝ }
+{
+    let starts = result_starts(m, table, steps, places);
+    order_result(m, starts, table, steps, places, index);
+    number_result(m, starts, table, steps, places, index);
+    starts
+}
