@@ -26,11 +26,11 @@ PLACE_BUFFER = HOLDERS_AT + POSITION_TABLE
 abbrev pub USED_AT : ℕ
 USED_AT = LATE_TABLE
 
-abbrev pub STATICS_AT : ℕ
-STATICS_AT = USED_AT + USED_TABLE
+abbrev pub STATIC_AT : ℕ
+STATIC_AT = USED_AT + USED_TABLE
 
 abbrev pub GLABELS_AT : ℕ
-GLABELS_AT = STATICS_AT + STATIC_TABLE
+GLABELS_AT = STATIC_AT + STATIC_TABLE
 
 abbrev pub LIST_AT : ℕ
 LIST_AT = GLABELS_AT + GLABEL_TABLE
@@ -76,7 +76,7 @@ abbrev pub usedTable : List ℕ → List ℕ
 usedTable l = partAt USED_AT USED_TABLE l
 
 abbrev pub staticTable : List ℕ → List ℕ
-staticTable l = partAt STATICS_AT STATIC_TABLE l
+staticTable l = partAt STATIC_AT STATIC_TABLE l
 
 abbrev pub glabelTable : List ℕ → List ℕ
 glabelTable l = partAt GLABELS_AT GLABEL_TABLE l

@@ -15,7 +15,7 @@ pub const PLACE_BUFFER: usize = 81920;
 
 pub const USED_AT: usize = 291920;
 
-pub const STATICS_AT: usize = 296016;
+pub const STATIC_AT: usize = 296016;
 
 pub const GLABELS_AT: usize = 394320;
 

@@ -99,6 +99,8 @@ module _ (C A B : List ℕ) (r : Opened) (table places : List ℕ) (w : Took C A
   own smallC smallA = record {
     compiled = record { named = compiled-sound .named; tabled = compiled-sound .tabled; is = refl };
     assembled = record { named = assembled-sound .named; tabled = assembled-sound .tabled; is = refl };
+    compiledSound = compiled-sound;
+    assembledSound = assembled-sound;
     many = w .blocks n e;
     laid = laid-own _ B table places (w .laid n e);
     placed = w .laid n e .is;

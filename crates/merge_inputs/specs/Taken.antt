@@ -5,6 +5,7 @@ use mathlib.Core.Path.{_≡_}
 use lib.ListN.{length}
 use Rattle.base_scope.specs.Limits.{FILE_LIMIT}
 use Rattle.elf_readers.specs.Readers.{orderOf}
+use Rattle.elf_check.specs.Sound.{Sound}
 use Rattle.elf_check.specs.View.{viewOf, Viewed}
 use Rattle.blocks_file.specs.Blocks.{blockCount}
 use Rattle.blocks_places.specs.Lines.{lineCount}
@@ -29,6 +30,8 @@ inputsOf C A n = record { order = orderOf C; compiled = viewOf (orderOf C) C; as
 pub record InputsRead (C A B : List ℕ) (i : Inputs) (table places : List ℕ) : Type 0 where
   pub compiled : Viewed (i .order) C (i .compiled)
   pub assembled : Viewed (i .order) A (i .assembled)
+  pub compiledSound : Sound (i .order) C
+  pub assembledSound : Sound (i .order) A
   pub many : i .blocks ≡ blockCount B
   pub laid : Laid (placesIn places (lineCount B)) B table places
   pub placed : placesIn places (lineCount B) ≡ placesOf (i .order) C B

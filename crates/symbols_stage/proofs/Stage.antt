@@ -15,7 +15,7 @@ use Rattle.blocks_file.specs.Blocks.{blockCount}
 use Rattle.blocks_places.specs.Lines.{lineCount}
 use Rattle.blocks_places.specs.Places.{Place}
 use Rattle.blocks_places.specs.Table.{placesIn, Laid}
-use Rattle.merge_buffers.specs.Buffers.{ROWS_AT, BLOCK_BUFFER, HOLDERS_AT, PLACE_BUFFER, USED_AT, STATICS_AT, GLABELS_AT, LIST_AT, STEP_BUFFER, NUMBERS_AT, SPANS_AT, INDEX_BUFFER, partAt, blockTable, idTable, placeTable, holderTable, lateTable, usedTable, staticTable, glabelTable, listTable, orderTable, numberTable, BuffersHeld, KeptBefore}
+use Rattle.merge_buffers.specs.Buffers.{ROWS_AT, BLOCK_BUFFER, HOLDERS_AT, PLACE_BUFFER, USED_AT, STATIC_AT, GLABELS_AT, LIST_AT, STEP_BUFFER, NUMBERS_AT, SPANS_AT, INDEX_BUFFER, partAt, blockTable, idTable, placeTable, holderTable, lateTable, usedTable, staticTable, glabelTable, listTable, orderTable, numberTable, BuffersHeld, KeptBefore}
 use Rattle.merge_buffers.proofs.Parts.{kept-part, part-long, part-lent, put-table, put-kept}
 use Rattle.merge_inputs.specs.declared.Inputs.{Inputs}
 use Rattle.merge_sections.specs.declared.Stage.{Stage}
@@ -47,7 +47,7 @@ lent from to l = take (to - from) (drop from l)
 
 -- ---- 15 and 16
 
-module _ (A : List ℕ) (s : Stage) (from to : ℕ) (steps part : List ℕ) (starts : from ≡ USED_AT) (ends : to ≡ STATICS_AT) (v : Viewed (s .inputs .order) A (s .inputs .assembled))
+module _ (A : List ℕ) (s : Stage) (from to : ℕ) (steps part : List ℕ) (starts : from ≡ USED_AT) (ends : to ≡ STATIC_AT) (v : Viewed (s .inputs .order) A (s .inputs .assembled))
     (l : LateIn (s .step .runs) (lateTable steps) (s .inputs .blocks)) (room : STEP_BUFFER ≤ length steps) (same : length part ≡ length (lent from to steps))
     (put : part ≡ spliced (lent from to steps) 0 (usedBytes (s .inputs .order) A)) where
   used-put : usedTable (putBack from to steps part) ≡ part
@@ -78,14 +78,14 @@ module _ (A : List ℕ) (s : Stage) (from to : ℕ) (steps part : List ℕ) (sta
 
 -- ---- 17
 
-pub statics-of : (C : List ℕ) (o : ByteOrder) (mode head from to : ℕ) (steps part : List ℕ) → from ≡ STATICS_AT → to ≡ GLABELS_AT → STEP_BUFFER ≤ length steps
+pub statics-of : (C : List ℕ) (o : ByteOrder) (mode head from to : ℕ) (steps part : List ℕ) → from ≡ STATIC_AT → to ≡ GLABELS_AT → STEP_BUFFER ≤ length steps
     → length part ≡ length (lent from to steps) → (r : Listing) → StaticsListed head C (staticsFault o C mode head) (statics o C mode head) r (lent from to steps) part
     → StaticsRead C o mode head r steps (putBack from to steps part)
 statics-of C o mode head from to steps part starts ends room same r w =
-    let put = put-table STATICS_AT STATIC_TABLE from to steps part (putBack from to steps part) starts ends (omega (arith, room)) same refl in
+    let put = put-table STATIC_AT STATIC_TABLE from to steps part (putBack from to steps part) starts ends (omega (arith, room)) same refl in
     record {
-      listed = rw (put, ← part-lent STATICS_AT STATIC_TABLE from to steps starts ends) w;
-      kept = put-kept STATICS_AT STATIC_TABLE from to steps part (putBack from to steps part) starts ends (omega (arith, room)) same refl;
+      listed = rw (put, ← part-lent STATIC_AT STATIC_TABLE from to steps starts ends) w;
+      kept = put-kept STATIC_AT STATIC_TABLE from to steps part (putBack from to steps part) starts ends (omega (arith, room)) same refl;
     }
 
 -- ---- glabels
@@ -165,8 +165,8 @@ module _ (C A : List ℕ) (f : Filling) (n : ℕ) (table tableAfter steps rows :
 -- ---- holders
 
 module _ (C A : List ℕ) (f : Filling) (m : ℕ) (table steps places index statics rows list : List ℕ) (from to : ℕ) (u : statics ≡ staticTable steps) (t : rows ≡ idTable table)
-  (l : list ≡ listTable steps) (starts : from ≡ HOLDERS_AT) (ends : to ≡ PLACE_BUFFER)
-  (ready : HoldersReady (f .inputs .order) C A (staticTable steps) (f .sources) (idTable table) (listTable steps) m) (held : BuffersHeld table places steps index) where
+    (l : list ≡ listTable steps) (starts : from ≡ HOLDERS_AT) (ends : to ≡ PLACE_BUFFER)
+    (ready : HoldersReady (f .inputs .order) C A (staticTable steps) (f .sources) (idTable table) (listTable steps) m) (held : BuffersHeld table places steps index) where
   holders-long : length (lent from to places) ≡ POSITION_TABLE
   holders-long = ap length (part-lent HOLDERS_AT POSITION_TABLE from to places starts ends) ∙ part-long HOLDERS_AT POSITION_TABLE places (omega (arith, held .places-long))
 

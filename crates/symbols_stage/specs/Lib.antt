@@ -1,1 +1,3 @@
 pub mod Stage
+pub mod Verdict
+pub mod End

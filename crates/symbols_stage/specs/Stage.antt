@@ -10,7 +10,7 @@ use Rattle.base_scope.specs.Limits.{POSITION_TABLE}
 use Rattle.base_answers.specs.declared.Verdict.{Verdict}
 use Rattle.elf_symbols.specs.Symbols.{symbolCount, symbolName}
 use Rattle.blocks_places.specs.Places.{Place}
-use Rattle.merge_buffers.specs.Buffers.{ROWS_AT, HOLDERS_AT, USED_AT, STATICS_AT, GLABELS_AT, LIST_AT, NUMBERS_AT, idTable, holderTable, lateTable, usedTable, staticTable, glabelTable, listTable, orderTable, numberTable, KeptBefore}
+use Rattle.merge_buffers.specs.Buffers.{ROWS_AT, HOLDERS_AT, USED_AT, STATIC_AT, GLABELS_AT, LIST_AT, NUMBERS_AT, idTable, holderTable, lateTable, usedTable, staticTable, glabelTable, listTable, orderTable, numberTable, KeptBefore}
 use Rattle.merge_sections.specs.declared.Stage.{Stage}
 use Rattle.statics_walk.specs.declared.Listing.{Listing}
 use Rattle.statics_walk.specs.Walk.{staticsFault, statics}
@@ -34,7 +34,7 @@ pub record SymbolsTaken (A : List ℕ) (s : Stage) (r : Verdict) (before after :
 -- 17, and the statics
 pub record StaticsRead (C : List ℕ) (o : ByteOrder) (mode head : ℕ) (r : Listing) (before after : List ℕ) : Type 0 where
   pub listed : StaticsListed head C (staticsFault o C mode head) (statics o C mode head) r (staticTable before) (staticTable after)
-  pub kept : KeptBefore STATICS_AT before after
+  pub kept : KeptBefore STATIC_AT before after
 
 -- the words of the glabels
 pub record GlabelsRead (A B : List ℕ) (o : ByteOrder) (P : List Place) (before after : List ℕ) : Type 0 where

@@ -2,15 +2,18 @@
 // the working buffers of `merge_buffers`; what each function leaves in them is in specs/Stage.antt. `merge_symbols` equals `symbolStagesVerdict` of specs/Verdict.antt.
 ghost use mathlib.Core.Path.{_≡_};
 ghost use Prim.Native.Nat.{_≤_};
-ghost use lib.ListN.{length};
+ghost use lib.ListN.{length, getD};
 ghost use Rattle.base_lists.specs.Windows.{Within};
-ghost use Rattle.base_scope.specs.Limits.{FILE_LIMIT, HEAD_LIMIT};
+ghost use Rattle.base_scope.specs.Limits.{FILE_LIMIT, HEAD_LIMIT, ID_LIMIT};
 ghost use Rattle.elf_readers.specs.Bounds.{Named};
 ghost use Rattle.elf_check.specs.View.{viewOf, Viewed};
 ghost use Rattle.elf_symbols.specs.Symbols.{Table};
 ghost use Rattle.blocks_file.specs.Blocks.{blockCount};
 ghost use Rattle.blocks_places.specs.Lines.{lineCount};
 ghost use Rattle.blocks_places.specs.Table.{placesIn, Laid};
+ghost use Rattle.merge_sections.specs.Stages.{StageRead, Movable};
+ghost use Rattle.symbols_merge.specs.Merged.{RESULT-GROUPS, LOCAL-GROUPS};
+ghost use Rattle.symbols_taken.specs.Passed.{TakenPassed};
 ghost use Rattle.symbols_taken.specs.Code.{usedBytes, LateIn, takenIn};
 ghost use Rattle.symbols_rows.specs.Steps.{Holders, verdictIn};
 ghost use Rattle.symbols_holders.specs.Ready.{symbolsIn, HoldersReady};
@@ -19,11 +22,20 @@ ghost use Rattle.symbols_fill.specs.Fill.{FillReady};
 ghost use Rattle.merge_buffers.specs.Buffers.{BLOCK_BUFFER, PLACE_BUFFER, STEP_BUFFER, blockTable, idTable, placeTable, holderTable, lateTable, usedTable, staticTable, listTable, orderTable, numberTable, BuffersHeld};
 ghost use Rattle.symbols_chain.specs.Chain.{SymbolsNumbered};
 ghost use Rattle.symbols_stage.specs.Stage.{SymbolsTaken, StaticsRead, GlabelsRead, IdsFilledIn, IdsListedIn, IdsHeldIn, IdRooms, OrderLeft, NumbersLeft};
+ghost use Rattle.symbols_stage.specs.End.{countsOf, fillingOf, NumberedEnd, ListEnd, StaticsEnd, StageEnd};
 use base_answers::Verdict;
+use base_scope::Finding;
 use merge_inputs::Inputs;
 use merge_sections::Stage;
 use statics_walk::Listing;
 use symbols_fill::Filling;
+use symbols_names::Sources;
+
+// How statics are taken over: the mode, and how many bytes it puts in front of a name.
+pub struct Manner {
+    pub mode: u32,
+    pub head: u32,
+}
 
 // Refusals 15 and 16, by the marks.
 fn taken_verdict(assembled: &[u8], stage: Stage, steps: &[u8]) -> Verdict
@@ -45,7 +57,7 @@ fn take_symbols(assembled: &[u8], stage: Stage, steps: &mut [u8]) -> Verdict
     let inputs = stage.inputs;
     let order = inputs.order;
     let from = merge_buffers::bound(merge_buffers::USED_AT);
-    let to = merge_buffers::bound(merge_buffers::STATICS_AT);
+    let to = merge_buffers::bound(merge_buffers::STATIC_AT);
     symbols_taken::mark_used(order, assembled, inputs.assembled, &mut steps[from..to]);
     taken_verdict(assembled, stage, steps)
 }
@@ -57,7 +69,7 @@ fn read_statics(compiled: &[u8], inputs: Inputs, mode: u32, head: u32, steps: &m
     ensures { λ r. ⌜ StaticsRead (now (compiled .entry)) (inputs .order) mode head r (now (steps .entry)) (now (steps .exit)) ⌝ }
 {
     let order = inputs.order;
-    let from = merge_buffers::bound(merge_buffers::STATICS_AT);
+    let from = merge_buffers::bound(merge_buffers::STATIC_AT);
     let to = merge_buffers::bound(merge_buffers::GLABELS_AT);
     statics_walk::list_statics(
         order,
@@ -117,7 +129,7 @@ fn fill_table<'a>(
         × (STEP_BUFFER ≤ length (now steps)) ⌝ }
     ensures { λ r. ⌜ IdsFilledIn (now (compiled .entry)) (now (assembled .entry)) filling r (now (steps .entry)) (now (table .entry)) (now (table .exit)) ⌝ }
 {
-    let statics = merge_buffers::part(steps, merge_buffers::STATICS_AT, base_scope::STATIC_TABLE);
+    let statics = merge_buffers::part(steps, merge_buffers::STATIC_AT, base_scope::STATIC_TABLE);
     let used = merge_buffers::part(steps, merge_buffers::USED_AT, base_scope::USED_TABLE);
     let late = merge_buffers::part(steps, 0, base_scope::LATE_TABLE);
     let from = merge_buffers::bound(merge_buffers::ROWS_AT);
@@ -170,7 +182,7 @@ fn hold_symbols<'a>(
 {
     let inputs = filling.inputs;
     let order = inputs.order;
-    let statics = merge_buffers::part(steps, merge_buffers::STATICS_AT, base_scope::STATIC_TABLE);
+    let statics = merge_buffers::part(steps, merge_buffers::STATIC_AT, base_scope::STATIC_TABLE);
     let rows = merge_buffers::part(table, merge_buffers::ROWS_AT, base_scope::ID_TABLE);
     let list = merge_buffers::part(steps, merge_buffers::LIST_AT, base_scope::POSITION_TABLE);
     let from = merge_buffers::bound(merge_buffers::HOLDERS_AT);
@@ -293,4 +305,166 @@ fn number_positions(
     order_result(m, starts, table, steps, places, index);
     number_result(m, starts, table, steps, places, index);
     starts
+}
+
+// How many statics there are, how many entries of the result are local, and how many it has, entry 0 counted in both.
+pub struct Counts {
+    pub statics: usize,
+    pub locals: usize,
+    pub count: usize,
+}
+
+// What the symbol merge answers: the counts of the result, whose symbols are numbered then, or a refusal.
+pub enum SymbolsEnd {
+    Numbered(Counts),
+    Refused(u32, u32, u64),
+}
+
+// The counts by the starts of the groups.
+fn counts_of(statics: usize, starts: [usize; symbols_numbers::STARTS]) -> Counts
+    requires { ⌜ (getD starts LOCAL-GROUPS 0 ≤ ID_LIMIT) × (getD starts RESULT-GROUPS 0 ≤ ID_LIMIT) ⌝ }
+    ensures { λ r. ⌜ r ≡ countsOf statics starts ⌝ }
+{
+    let locals = starts[2] + 1;
+    let count = starts[4] + 1;
+    Counts {
+        statics,
+        locals,
+        count,
+    }
+}
+
+// Refusals 18 and 19, then the numbers.
+fn number_list(
+    statics: usize,
+    m: usize,
+    table: &[u8],
+    steps: &[u8],
+    places: &[u8],
+    index: &mut [u8],
+) -> SymbolsEnd
+    requires { ⌜ Tables (idTable (now table)) (listTable (now steps)) (holderTable (now places)) m × HoldersFirst (listTable (now steps)) (holderTable (now places)) m
+        × IdRooms (listTable (now steps)) m × BuffersHeld (now table) (now places) (now steps) (now index) ⌝ }
+    ensures { λ r. ⌜ NumberedEnd (idTable (now (table .entry))) (listTable (now (steps .entry))) (holderTable (now (places .entry))) m statics r (now (index .exit)) ⌝ }
+{
+    match list_verdict(m, table, steps, places) {
+        Verdict::Passed => {
+            let starts = number_positions(m, table, steps, places, index);
+            SymbolsEnd::Numbered(counts_of(statics, starts))
+        }
+        Verdict::Refused(number, object, place) => SymbolsEnd::Refused(number, object, place),
+    }
+}
+
+// The rows, the list, the holders; then 18 and 19, and the numbers.
+fn merge_list<'a>(
+    compiled: &'a [u8],
+    assembled: &'a [u8],
+    filling: Filling,
+    table: &mut [u8],
+    places: &mut [u8],
+    steps: &mut [u8],
+    index: &mut [u8],
+) -> SymbolsEnd
+    requires { ⌜ FillReady (now compiled) (now assembled) (staticTable (now steps)) (usedTable (now steps)) (lateTable (now steps)) filling
+        × BuffersHeld (now table) (now places) (now steps) (now index) ⌝ }
+    ensures { λ r. ⌜ ListEnd (now (compiled .entry)) (now (assembled .entry)) filling r (now (table .entry)) (now (table .exit)) (now (places .entry)) (now (places .exit)) (now (steps .entry)) (now (steps .exit)) (now (index .exit)) ⌝ }
+{
+    let m = list_symbols(compiled, assembled, filling, table, steps);
+    hold_symbols(compiled, assembled, filling, m, table, steps, places, index);
+    let sources = filling.sources;
+    number_list(sources.statics, m, table, steps, places, index)
+}
+
+// What the rows are filled by, behind the statics.
+pub fn filling_of(stage: Stage, mode: u32, statics: usize) -> Filling
+    ensures { λ r. ⌜ r ≡ fillingOf stage mode statics ⌝ }
+{
+    let inputs = stage.inputs;
+    let step = stage.step;
+    let own = inputs.compiled;
+    let other = inputs.assembled;
+    let compiled = own.symbols;
+    let assembled = other.symbols;
+    let sources = Sources {
+        compiled,
+        assembled,
+        statics,
+    };
+    Filling {
+        inputs,
+        step,
+        sources,
+        mode,
+    }
+}
+
+// Refusal 17; then the glabels, and the list.
+fn merge_statics<'a>(
+    compiled: &'a [u8],
+    assembled: &'a [u8],
+    file: &[u8],
+    stage: Stage,
+    manner: Manner,
+    table: &mut [u8],
+    places: &mut [u8],
+    steps: &mut [u8],
+    index: &mut [u8],
+) -> SymbolsEnd
+    requires { ⌜ StageRead (now compiled) (now assembled) (now file) stage (blockTable (now table)) (placeTable (now places))
+        × Movable (now compiled) (now file) stage (placesIn (placeTable (now places)) (lineCount (now file))) (lateTable (now steps))
+        × TakenPassed (stage .inputs .order) (now compiled) (now assembled) (placesIn (placeTable (now places)) (lineCount (now file))) (now file)
+        × Within (usedBytes (stage .inputs .order) (now assembled)) 0 (usedTable (now steps)) × (manner .head ≤ HEAD_LIMIT)
+        × BuffersHeld (now table) (now places) (now steps) (now index) ⌝ }
+    ensures { λ r. ⌜ StaticsEnd (now (compiled .entry)) (now (assembled .entry)) (now (file .entry)) stage manner r (now (table .entry)) (now (table .exit)) (now (places .entry)) (now (places .exit)) (now (steps .entry)) (now (steps .exit)) (now (index .exit)) ⌝ }
+{
+    let inputs = stage.inputs;
+    let listing = read_statics(compiled, inputs, manner.mode, manner.head, steps);
+    let fault = listing.fault;
+    match fault {
+        Finding::Clear => {
+            read_glabels(assembled, file, inputs, table, places, steps, index);
+            let tally = listing.tally;
+            let filling = filling_of(stage, manner.mode, tally.count);
+            merge_list(compiled, assembled, filling, table, places, steps, index)
+        }
+        Finding::At(entry) => SymbolsEnd::Refused(
+            base_scope::STATICS,
+            base_answers::COMPILED,
+            entry as u64,
+        ),
+    }
+}
+
+// Refusals 15 to 19 in order, and the numbering of the result where none refuses: its tables stand in the buffers then.
+pub fn merge_symbols<'a>(
+    compiled: &'a [u8],
+    assembled: &'a [u8],
+    file: &[u8],
+    stage: Stage,
+    manner: Manner,
+    table: &mut [u8],
+    places: &mut [u8],
+    steps: &mut [u8],
+    index: &mut [u8],
+) -> SymbolsEnd
+    requires { ⌜ StageRead (now compiled) (now assembled) (now file) stage (blockTable (now table)) (placeTable (now places))
+        × Movable (now compiled) (now file) stage (placesIn (placeTable (now places)) (lineCount (now file))) (lateTable (now steps)) × (manner .head ≤ HEAD_LIMIT)
+        × BuffersHeld (now table) (now places) (now steps) (now index) ⌝ }
+    ensures { λ r. ⌜ StageEnd (now (compiled .entry)) (now (assembled .entry)) (now (file .entry)) stage manner r (now (table .entry)) (now (table .exit)) (now (places .entry)) (now (places .exit)) (now (steps .entry)) (now (steps .exit)) (now (index .exit)) ⌝ }
+{
+    match take_symbols(assembled, stage, steps) {
+        Verdict::Passed => merge_statics(
+            compiled,
+            assembled,
+            file,
+            stage,
+            manner,
+            table,
+            places,
+            steps,
+            index,
+        ),
+        Verdict::Refused(number, object, place) => SymbolsEnd::Refused(number, object, place),
+    }
 }

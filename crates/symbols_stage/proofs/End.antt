@@ -1,0 +1,433 @@
+-- What the symbol merge answers, step by step: which test decides, and what stands in the buffers where none refuses. Assumes nothing.
+use Prim.Native.Nat.{ℕ, _+_, _*_, _≤_, _<_}
+use mathlib.Core.Path.{_≡_, refl, sym, ap, _∙_}
+use mathlib.Core.Bool.{true}
+use mathlib.Core.List.{List}
+use native.Mathlib.Omega.{arith}
+use lib.ListN.{length, getD}
+use Rattle.base_lists.specs.Windows.{Within}
+use Rattle.base_lists.proofs.Ranges.{select-all-at}
+use Rattle.base_fields.specs.declared.ByteOrder.{ByteOrder}
+use Rattle.base_scope.specs.Limits.{HEAD_LIMIT, ID_LIMIT, SYMBOL_LIMIT, STATIC_TABLE, USED_TABLE, LATE_TABLE, GLABEL_TABLE, POSITION_TABLE, PLACE_TABLE, BLOCK_TABLE}
+use Rattle.base_scope.specs.Codes.{LATE_TARGET}
+use Rattle.base_scope.specs.Refusals.{STATICS}
+use Rattle.base_scope.specs.declared.Finding.{Finding}
+use Rattle.base_scope.specs.declared.Finding.the-variants.{Clear, At}
+use Rattle.base_answers.specs.declared.Verdict.{Verdict}
+use Rattle.base_answers.specs.declared.Verdict.the-variants.{Passed, Refused}
+use Rattle.base_answers.specs.Answers.{COMPILED}
+use Rattle.base_answers.specs.Verdicts.{also, findingVerdict}
+use Rattle.base_answers.proofs.Verdicts.{also-passed, also-refused, finding-clear, finding-at}
+use Rattle.elf_readers.specs.Readers.{codedContents}
+use Rattle.elf_symbols.specs.Symbols.{Table}
+use Rattle.elf_check.specs.View.{Viewed}
+use Rattle.elf_check.proofs.Views.{view-table}
+use Rattle.blocks_file.specs.Blocks.{blockCount}
+use Rattle.blocks_places.specs.Lines.{lineCount}
+use Rattle.blocks_places.specs.Places.{Place}
+use Rattle.blocks_places.specs.Table.{placesIn, Laid}
+use Rattle.merge_buffers.specs.Buffers.{ROWS_AT, HOLDERS_AT, USED_AT, STATIC_AT, GLABELS_AT, LIST_AT, STEP_BUFFER, NUMBERS_AT, INDEX_BUFFER, blockTable, idTable, placeTable, holderTable, lateTable, usedTable, staticTable, glabelTable, listTable, orderTable, numberTable, BuffersHeld, KeptBefore}
+use Rattle.merge_buffers.proofs.Parts.{kept-part, kept-same, kept-less, kept-then, part-long}
+use Rattle.merge_sections.specs.declared.Stage.{Stage}
+use Rattle.merge_sections.specs.Stages.{StageRead, Movable}
+use Rattle.merge_sections.proofs.Sections.{step-runs, step-start}
+use Rattle.statics_table.specs.declared.Tally.{Tally}
+use Rattle.statics_table.specs.Table.{staticsIn, StaticTable}
+use Rattle.statics_walk.specs.declared.Listing.{Listing}
+use Rattle.statics_walk.specs.Walk.{staticsFault, statics}
+use Rattle.statics_walk.specs.Sound.{StaticsSound}
+use Rattle.statics_walk.proofs.Sound.{statics-sound}
+use Rattle.symbols_merge.specs.Candidates.{Candidates}
+use Rattle.symbols_merge.specs.Listed.{symbolsVerdict}
+use Rattle.symbols_merge.specs.Merged.{RESULT-GROUPS, LOCAL-GROUPS, mergedCount, localCount}
+use Rattle.symbols_taken.specs.Taken.{takenVerdict}
+use Rattle.symbols_taken.specs.Passed.{TakenPassed}
+use Rattle.symbols_taken.specs.Code.{usedBytes, LateIn, StepIn, takenIn}
+use Rattle.symbols_taken.proofs.InHand.{step-late, taken-is}
+use Rattle.symbols_taken.proofs.Passed.{taken-passed}
+use Rattle.symbols_ids.specs.Ids.{candidates}
+use Rattle.symbols_rows.specs.Rows.{HoldersOf}
+use Rattle.symbols_rows.specs.Steps.{verdictIn}
+use Rattle.symbols_holders.specs.Ready.{idCount, symbolsIn, HoldersReady}
+use Rattle.symbols_numbers.specs.Numbers.{Tables, HoldersFirst, orderIn, groupStarts}
+use Rattle.symbols_numbers.specs.Result.{StartsOf, NumbersOf}
+use Rattle.symbols_numbers.proofs.Counts.{start-few}
+use Rattle.symbols_fill.specs.declared.Filling.{Filling}
+use Rattle.symbols_fill.specs.Fill.{FillReady}
+use Rattle.symbols_fill.specs.Stage.{FillStage}
+use Rattle.symbols_fill.proofs.Candidates.{fill-ready}
+use Rattle.symbols_fill.proofs.Filled.{ids-few}
+use Rattle.symbols_chain.specs.Chain.{SymbolsListed, SymbolsNumbered}
+use Rattle.symbols_chain.proofs.Stage.{fill-stage-of}
+use Rattle.symbols_chain.proofs.Result.{chain-tables, chain-first, chain-room, chain-verdict, chain-starts, chain-order, chain-numbers}
+use Rattle.symbols_table.specs.Stage.{TableStage}
+use Rattle.symbols_stage.specs.declared.Manner.{Manner}
+use Rattle.symbols_stage.specs.declared.Counts.{Counts}
+use Rattle.symbols_stage.specs.declared.SymbolsEnd.{SymbolsEnd}
+use Rattle.symbols_stage.specs.declared.SymbolsEnd.the-variants.{Numbered, Refused as Unnumbered}
+use Rattle.symbols_stage.specs.Verdict.{stageCandidates, listVerdict, symbolStagesVerdict}
+use Rattle.symbols_stage.specs.Stage.{SymbolsTaken, StaticsRead, GlabelsRead, IdsListedIn, IdsHeldIn, IdRooms}
+use Rattle.symbols_stage.specs.End.{endVerdict, countsOf, fillingOf, numberingBy, NumberedEnd, ListEnd, SymbolsHeld, StaticsEnd, StageEnd}
+
+same-counts : (a b : Counts) → Numbered a ≡ Numbered b → b ≡ a
+same-counts a b e = cc
+
+never : (x y z : ℕ) (n : Counts) → Unnumbered x y z ≡ Numbered n → ⊥
+never x y z n e = let q : _≡_ {A = ℕ} 0 1 = cc in omega arith
+
+-- ---- 18 and 19, and the numbers
+
+module _ (T L H : List ℕ) (m : ℕ) where
+  start-at : (starts : List ℕ) (k : ℕ) → starts ≡ groupStarts T L H m → k < RESULT-GROUPS + 1 → getD starts k 0 ≡ length (orderIn T L H m k)
+  unfolding groupStarts
+  start-at starts k e u = rw e (select-all-at (λ g. length (orderIn T L H m g)) k (RESULT-GROUPS + 1) 0 u)
+
+  pub counts-low : Tables T L H m → (starts : List ℕ) → starts ≡ groupStarts T L H m → (getD starts LOCAL-GROUPS 0 ≤ ID_LIMIT) × (getD starts RESULT-GROUPS 0 ≤ ID_LIMIT)
+  counts-low w starts e = (
+    omega (arith, start-at starts LOCAL-GROUPS e (omega arith), start-few T L H m LOCAL-GROUPS, w .few),
+    omega (arith, start-at starts RESULT-GROUPS e (omega arith), start-few T L H m RESULT-GROUPS, w .few),
+  )
+
+  module _ (statics : ℕ) (v : Verdict) (is : v ≡ verdictIn T L H m) (index : List ℕ) where
+    pub end-numbered : v ≡ Passed → (starts : List ℕ) → SymbolsNumbered T L H m starts (orderTable index) (numberTable index) → (n : Counts) → n ≡ countsOf statics starts
+        → NumberedEnd T L H m statics (Numbered n) index
+    unfolding endVerdict
+    end-numbered p starts w n e = record {
+      verdict = sym p ∙ is;
+      is = λ x q. same-counts n x q ∙ e ∙ ap (countsOf statics) (w .groups);
+      tables = λ x q. rw (← w .groups) w;
+    }
+
+    pub end-refused : (x y z : ℕ) → v ≡ Refused x y z → NumberedEnd T L H m statics (Unnumbered x y z) index
+    unfolding endVerdict
+    end-refused x y z p = record {
+      verdict = sym p ∙ is;
+      is = λ n q. absurd (never x y z n q);
+      tables = λ n q. absurd (never x y z n q);
+    }
+
+-- ---- the list
+
+module _ (C A : List ℕ) (f : Filling) (m : ℕ) (table table1 steps steps1 : List ℕ) (w : IdsListedIn C A f m table table1 steps steps1) where
+  statics-same : staticTable steps1 ≡ staticTable steps
+  statics-same = kept-part LIST_AT steps steps1 (w .keptSteps) STATIC_AT STATIC_TABLE (omega arith)
+
+  pub list-hold : (places index : List ℕ) → BuffersHeld table places steps index
+      → HoldersReady (f .inputs .order) C A (staticTable steps1) (f .sources) (idTable table1) (listTable steps1) m × BuffersHeld table1 places steps1 index
+  list-hold places index b = (
+    rw statics-same (w .listed .ready),
+    record {
+      table-long = rw (w .keptTable .long) (b .table-long);
+      places-long = b .places-long;
+      steps-long = rw (w .keptSteps .long) (b .steps-long);
+      index-long = b .index-long;
+    },
+  )
+
+  module _ (places places1 : List ℕ) (h : IdsHeldIn (symbolsIn (f .inputs .order) C A (staticTable steps1) (f .sources) (idTable table1)) m places places1) where
+    held-as : HoldersOf (symbolsIn (f .inputs .order) C A (staticTable steps) (f .sources) (idTable table1)) (holderTable places1) m
+    held-as = rw (← statics-same) (h .held)
+
+    pub list-number : (used index index1 : List ℕ) → FillReady C A (staticTable steps) used (lateTable steps) f → BuffersHeld table places steps index → length index1 ≡ length index
+        → Tables (idTable table1) (listTable steps1) (holderTable places1) m × HoldersFirst (listTable steps1) (holderTable places1) m × IdRooms (listTable steps1) m
+        × BuffersHeld table1 places1 steps1 index1
+    list-number used index index1 q b same =
+        let p : PLACE_TABLE + POSITION_TABLE ≤ length places1 = rw (h .kept .long) (b .places-long) in
+        let long = part-long HOLDERS_AT POSITION_TABLE places1 p in
+        let few = ids-few C A (staticTable steps) (lateTable steps) f (q .places) in
+        let room = chain-room C A (staticTable steps) (lateTable steps) f (idTable table1) (listTable steps1) m (w .listed) (holderTable places1) held-as (holderTable places1) (omega (arith, long, few)) in (
+          chain-tables C A (staticTable steps) (lateTable steps) f (idTable table1) (listTable steps1) m (w .listed) (holderTable places1) held-as,
+          chain-first C A (staticTable steps) (lateTable steps) f (idTable table1) (listTable steps1) m (w .listed) (holderTable places1) held-as,
+          record { word = λ k l. omega (arith, room .word k l, long) },
+          record {
+            table-long = rw (w .keptTable .long) (b .table-long);
+            places-long = p;
+            steps-long = rw (w .keptSteps .long) (b .steps-long);
+            index-long = rw same (b .index-long);
+          },
+        )
+
+    pub list-end : (r : SymbolsEnd) (index : List ℕ) → NumberedEnd (idTable table1) (listTable steps1) (holderTable places1) m (f .sources .statics) r index
+        → ListEnd C A f r table table1 places places1 steps steps1 index
+    list-end r index e = record {
+      positions = m;
+      listed = w .listed;
+      held = held-as;
+      end = e;
+      keptTable = w .keptTable;
+      keptPlaces = h .kept;
+      keptSteps = w .keptSteps;
+    }
+
+-- ---- 17
+
+module _ (C A B : List ℕ) (s : Stage) (w : Manner) (table places steps index : List ℕ) (read : StageRead C A B s (blockTable table) (placeTable places)) where
+  abbrev o : ByteOrder
+  o = s .inputs .order
+
+  abbrev P : List Place
+  P = placesIn (placeTable places) (lineCount B)
+
+  other-table : Table o A (s .inputs .assembled .symbols)
+  other-table = view-table o A (s .inputs .assembled) (read .read .assembled .is) (read .read .assembled .tabled)
+
+  -- it refuses
+  module _ (steps1 : List ℕ) (r : Listing) (u : StaticsRead C o (w .mode) (w .head) r steps steps1) where
+    pub statics-refused : (entry : ℕ) → r .fault ≡ At entry → StaticsEnd C A B s w (Unnumbered STATICS COMPILED entry) table table places places steps steps1 index
+    unfolding endVerdict listVerdict
+    statics-refused entry e = record {
+      verdict = sym (also-refused _ _ STATICS COMPILED entry (finding-at STATICS COMPILED _ entry (sym (u .listed .fault) ∙ e)));
+      held = λ n q. absurd (never STATICS COMPILED entry n q);
+      keptTable = kept-same ROWS_AT table;
+      keptPlaces = kept-same HOLDERS_AT places;
+      keptSteps = u .kept;
+    }
+
+    module _ (held : BuffersHeld table places steps index) where
+      pub statics-glabels : Table o A (s .inputs .assembled .symbols) × Laid P B (blockTable table) (placeTable places) × (s .inputs .blocks ≡ blockCount B)
+          × BuffersHeld table places steps1 index
+      statics-glabels = (
+        other-table,
+        read .read .laid,
+        read .read .many,
+        record {
+          table-long = held .table-long;
+          places-long = held .places-long;
+          steps-long = rw (u .kept .long) (held .steps-long);
+          index-long = held .index-long;
+        },
+      )
+
+      -- it does not: the glabels are read
+      module _ (movable : Movable C B s P (lateTable steps)) (passed : TakenPassed o C A P B) (marks : Within (usedBytes o A) 0 (usedTable steps)) (steps2 : List ℕ)
+          (g : GlabelsRead A B o P steps1 steps2) where
+        early : KeptBefore STATIC_AT steps steps2
+        early = kept-then STATIC_AT steps steps1 steps2 (u .kept) (kept-less GLABELS_AT STATIC_AT steps1 steps2 (g .kept) (omega arith))
+
+        late-2 : lateTable steps2 ≡ lateTable steps
+        late-2 = kept-part STATIC_AT steps steps2 early 0 LATE_TABLE (omega arith)
+
+        used-2 : usedTable steps2 ≡ usedTable steps
+        used-2 = kept-part STATIC_AT steps steps2 early USED_AT USED_TABLE (omega arith)
+
+        statics-2 : staticTable steps2 ≡ staticTable steps1
+        statics-2 = kept-part GLABELS_AT steps1 steps2 (g .kept) STATIC_AT STATIC_TABLE (omega arith)
+
+        table-2 : StaticTable (w .head) C (staticTable steps2) (r .tally)
+        table-2 = rw statics-2 (u .listed .filled)
+
+        list-2 : staticsIn (staticTable steps2) (r .tally .count) ≡ statics o C (w .mode) (w .head)
+        list-2 = rw statics-2 (u .listed .list)
+
+        sound-2 : StaticsSound o C (w .head) (staticsIn (staticTable steps2) (r .tally .count))
+        sound-2 = rw list-2 (statics-sound o C (w .mode) (w .head))
+
+        fill-2 : FillStage C A P B (staticTable steps2) (lateTable steps2) (fillingOf s (w .mode) (r .tally .count))
+        unfolding fillingOf
+        fill-2 =
+            fill-stage-of C A B s (blockTable table) (placeTable places) (staticTable steps2) (lateTable steps2) (w .head) (w .mode) (r .tally) read (rw late-2 movable) passed table-2 sound-2
+
+        marks-2 : Within (usedBytes o A) 0 (usedTable steps2)
+        marks-2 = rw used-2 marks
+
+        pub statics-list : (f : Filling) → f ≡ fillingOf s (w .mode) (r .tally .count) → (index1 : List ℕ) → length index1 ≡ length index
+            → FillReady C A (staticTable steps2) (usedTable steps2) (lateTable steps2) f × BuffersHeld table places steps2 index1
+        unfolding fillingOf
+        statics-list f is index1 same = (
+          rw is (fill-ready C A P B (staticTable steps2) (lateTable steps2) (fillingOf s (w .mode) (r .tally .count)) fill-2 (usedTable steps2) marks-2),
+          record {
+            table-long = held .table-long;
+            places-long = held .places-long;
+            steps-long = rw (early .long) (held .steps-long);
+            index-long = rw same (held .index-long);
+          },
+        )
+
+        -- and the list answers
+        module _ (clear : r .fault ≡ Clear) (e : SymbolsEnd) (table3 places3 steps3 index3 : List ℕ) (same : length index3 ≡ length index)
+            (l : ListEnd C A (fillingOf s (w .mode) (r .tally .count)) e table table3 places places3 steps2 steps3 index3) where
+          abbrev f : Filling
+          f = fillingOf s (w .mode) (r .tally .count)
+
+          abbrev T : List ℕ
+          T = idTable table3
+
+          abbrev L : List ℕ
+          L = listTable steps3
+
+          abbrev H : List ℕ
+          H = holderTable places3
+
+          abbrev U : List ℕ
+          U = staticTable steps2
+
+          abbrev starts : List ℕ
+          starts = groupStarts T L H (l .positions)
+
+          abbrev t : Candidates
+          t = stageCandidates o C A P B (w .mode) (w .head)
+
+          own-candidates : candidates (f .inputs .order) C A P B (f .mode) (staticsIn U (f .sources .statics)) ≡ t
+          unfolding stageCandidates fillingOf
+          own-candidates = rw list-2
+
+          held-in : HoldersOf (symbolsIn (f .inputs .order) C A U (f .sources) T) H (l .positions)
+          held-in = l .held
+
+          list-verdict : endVerdict e ≡ symbolsVerdict t
+          list-verdict = l .end .verdict ∙ chain-verdict C A U (lateTable steps2) f T L (l .positions) (l .listed) H held-in P B fill-2 ∙ ap symbolsVerdict own-candidates
+
+          end-verdict : endVerdict e ≡ listVerdict o C A P B (w .mode) (w .head)
+          unfolding listVerdict
+          end-verdict = list-verdict ∙ sym (also-passed _ _ (finding-clear STATICS COMPILED _ (sym (u .listed .fault) ∙ clear)))
+
+          few : l .positions ≤ ID_LIMIT
+          few = chain-tables C A U (lateTable steps2) f T L (l .positions) (l .listed) H held-in .few
+
+          ids-few-2 : idCount (f .sources) ≤ ID_LIMIT
+          unfolding fillingOf
+          ids-few-2 = ids-few C A U (lateTable steps2) f (fill-ready C A P B U (lateTable steps2) f fill-2 (usedTable steps2) marks-2 .places)
+
+          index-long-3 : INDEX_BUFFER ≤ length index3
+          index-long-3 = rw same (held .index-long)
+
+          order-long : length (orderTable index3) ≡ POSITION_TABLE
+          order-long = part-long 0 POSITION_TABLE index3 (omega (arith, index-long-3))
+
+          numbers-long : length (numberTable index3) ≡ POSITION_TABLE
+          numbers-long = part-long NUMBERS_AT POSITION_TABLE index3 (omega (arith, index-long-3))
+
+          module _ (n : Counts) (q : e ≡ Numbered n) where
+            numbered : SymbolsNumbered T L H (l .positions) starts (orderTable index3) (numberTable index3)
+            numbered = l .end .tables n q
+
+            starts-3 : StartsOf t starts
+            starts-3 = rw (← own-candidates) (chain-starts C A U (lateTable steps2) f T L (l .positions) (l .listed) H held-in P B fill-2 starts (orderTable index3) (numberTable index3) numbered)
+
+            glabels-long : length (glabelTable steps2) ≡ GLABEL_TABLE
+            glabels-long =
+                let long : STEP_BUFFER ≤ length steps2 = rw (early .long) (held .steps-long) in
+                part-long GLABELS_AT GLABEL_TABLE steps2 (omega (arith, long))
+
+            stage-2 : TableStage C A P B U (lateTable steps2) (glabelTable steps2) T L (orderTable index3) (l .positions) (numberingBy s w (countsOf (r .tally .count) starts))
+            unfolding numberingBy countsOf fillingOf
+            stage-2 = record {
+              compiled = read .read .compiledSound;
+              assembled = read .read .assembledSound;
+              compiledSmall = read .read .compiledSmall;
+              assembledSmall = read .read .assembledSmall;
+              head = w .head;
+              tally = r .tally;
+              many = refl;
+              table = table-2;
+              statics = sound-2;
+              room = omega (arith, glabels-long);
+              marked = g .words .words;
+              filled = fill-2;
+              listed = l .listed;
+              ordered = chain-order C A U (lateTable steps2) f T L (l .positions) (l .listed) H held-in P B fill-2 starts (orderTable index3) (numberTable index3) numbered (omega (arith, order-long, few));
+              counted = starts-3 .all ∙ ap mergedCount (sym own-candidates);
+            }
+
+            late-3 : lateTable steps3 ≡ lateTable steps2
+            late-3 = kept-part LIST_AT steps2 steps3 (l .keptSteps) 0 LATE_TABLE (omega arith)
+
+            statics-3 : staticTable steps3 ≡ staticTable steps2
+            statics-3 = kept-part LIST_AT steps2 steps3 (l .keptSteps) STATIC_AT STATIC_TABLE (omega arith)
+
+            glabels-3 : glabelTable steps3 ≡ glabelTable steps2
+            glabels-3 = kept-part LIST_AT steps2 steps3 (l .keptSteps) GLABELS_AT GLABEL_TABLE (omega arith)
+
+            counts-are : n ≡ countsOf (r .tally .count) starts
+            unfolding fillingOf
+            counts-are = l .end .is n q
+
+            statics-by : staticsIn (staticTable steps3) (countsOf (r .tally .count) starts .statics) ≡ statics o C (w .mode) (w .head)
+            unfolding countsOf
+            statics-by = rw statics-3 list-2
+
+            locals-by : countsOf (r .tally .count) starts .locals ≡ localCount t
+            unfolding countsOf
+            locals-by = starts-3 .locals
+
+            held-by : (x : Counts) → x ≡ countsOf (r .tally .count) starts → SymbolsHeld C A B P s w x table3 steps3 index3
+            held-by x is = rw is (record {
+              positions = l .positions;
+              tables = rw (late-3, statics-3, glabels-3) stage-2;
+              statics-are = statics-by;
+              numbers = rw (← own-candidates) (chain-numbers C A U (lateTable steps2) f T L (l .positions) (l .listed) H held-in P B fill-2 starts (orderTable index3) (numberTable index3) numbered (omega (arith, numbers-long, ids-few-2)));
+              locals-are = locals-by;
+            })
+
+          statics-held : StaticsEnd C A B s w e table table3 places places3 steps steps3 index3
+          statics-held = record {
+            verdict = end-verdict;
+            held = λ n q. held-by n q n (counts-are n q);
+            keptTable = l .keptTable;
+            keptPlaces = l .keptPlaces;
+            keptSteps = kept-then STATIC_AT steps steps2 steps3 early (kept-less LIST_AT STATIC_AT steps2 steps3 (l .keptSteps) (omega arith));
+          }
+
+        pub statics-end : r .fault ≡ Clear → (x : Filling) → x ≡ fillingOf s (w .mode) (r .tally .count) → (e : SymbolsEnd) (table3 places3 steps3 index3 : List ℕ)
+            → length index3 ≡ length index → ListEnd C A x e table table3 places places3 steps2 steps3 index3 → StaticsEnd C A B s w e table table3 places places3 steps steps3 index3
+        statics-end clear x is e table3 places3 steps3 index3 same l = statics-held clear e table3 places3 steps3 index3 same (rw is at l)
+
+  -- ---- 15 and 16
+
+  module _ (movable : Movable C B s P (lateTable steps)) (held : BuffersHeld table places steps index) where
+    step-in : StepIn o A P B (s .step .runs) (lateTable steps) (s .inputs .blocks)
+    step-in = record {
+      there = step-runs C A B s (blockTable table) (placeTable places) read;
+      many = read .read .many;
+      searched = codedContents o C LATE_TARGET;
+      moves = λ u. rw (← step-start C A B s (blockTable table) (placeTable places) read) (movable u);
+    }
+
+    pub stage-take : Viewed o A (s .inputs .assembled) × LateIn (s .step .runs) (lateTable steps) (s .inputs .blocks) × (STEP_BUFFER ≤ length steps)
+    stage-take = (read .read .assembled, step-late o A P B (s .step .runs) (lateTable steps) (s .inputs .blocks) step-in, held .steps-long)
+
+    module _ (v : Verdict) (steps1 : List ℕ) (t : SymbolsTaken A s v steps steps1) where
+      taken-as : v ≡ takenVerdict o C A P B
+      taken-as =
+          t .verdict
+          ∙ taken-is o C A (s .inputs .compiled) (s .inputs .assembled) (read .read .compiled .is) (read .read .assembled .is) P B (s .step .runs) (lateTable steps) (s .inputs .blocks) step-in
+
+      late-1 : lateTable steps1 ≡ lateTable steps
+      late-1 = kept-part USED_AT steps steps1 (t .kept) 0 LATE_TABLE (omega arith)
+
+      pub stage-statics : v ≡ Passed → w .head ≤ HEAD_LIMIT → StageRead C A B s (blockTable table) (placeTable places) × Movable C B s P (lateTable steps1) × TakenPassed o C A P B
+          × Within (usedBytes o A) 0 (usedTable steps1) × (w .head ≤ HEAD_LIMIT) × BuffersHeld table places steps1 index
+      stage-statics p low = (
+        read,
+        rw late-1 movable,
+        taken-passed o C A P B (sym taken-as ∙ p),
+        t .marks,
+        low,
+        record {
+          table-long = held .table-long;
+          places-long = held .places-long;
+          steps-long = rw (t .kept .long) (held .steps-long);
+          index-long = held .index-long;
+        },
+      )
+
+      pub stage-end : v ≡ Passed → (e : SymbolsEnd) (table2 places2 steps2 index2 : List ℕ) → StaticsEnd C A B s w e table table2 places places2 steps1 steps2 index2
+          → StageEnd C A B s w e table table2 places places2 steps steps2 index2
+      unfolding symbolStagesVerdict
+      stage-end p e table2 places2 steps2 index2 x = record {
+        verdict = x .verdict ∙ sym (also-passed _ _ (sym taken-as ∙ p));
+        held = x .held;
+        keptTable = x .keptTable;
+        keptPlaces = x .keptPlaces;
+        keptSteps = kept-then USED_AT steps steps1 steps2 (t .kept) (kept-less STATIC_AT USED_AT steps1 steps2 (x .keptSteps) (omega arith));
+      }
+
+      pub stage-refused : (a b c : ℕ) → v ≡ Refused a b c → StageEnd C A B s w (Unnumbered a b c) table table places places steps steps1 index
+      unfolding symbolStagesVerdict endVerdict
+      stage-refused a b c p = record {
+        verdict = sym (also-refused _ _ a b c (sym taken-as ∙ p));
+        held = λ n q. absurd (never a b c n q);
+        keptTable = kept-same ROWS_AT table;
+        keptPlaces = kept-same HOLDERS_AT places;
+        keptSteps = t .kept;
+      }

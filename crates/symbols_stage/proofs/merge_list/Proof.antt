@@ -1,0 +1,57 @@
+-- The rows and the list, then the holders, then the numbers. Assumes nothing.
+use denote.Ref.{now}
+use Rattle.symbols_stage.proofs.End.{list-hold, list-number, list-end}
+use borrow.Author.Needs.{needs}
+use Rattle.symbols_stage.proofs.merge_list.Statement.{statement}
+use Rattle.symbols_stage.proofs.merge_list.Tie as tie
+
+list-symbols-requires : tie.Need-list-symbols-requires
+list-symbols-requires c κs = search needs
+
+hold-symbols-requires : tie.Need-hold-symbols-requires
+hold-symbols-requires c κs =
+    let args = c .before .before .before .before .before .before .before .before .before .before .before .before .before .before .before .before .before .args in
+    let list-symbols = c .before .before .before .before .before .before .before .before .list-symbols in
+    let pre = c .before .before .before .before .before .before .before .before .before .before .before .before .before .before .before .before .before .pre in
+    list-hold (now (args .compiled)) (now (args .assembled)) (args .filling) _ (now (args .table)) _ (now (args .steps)) _ (list-symbols .ensures) (now (args .places)) (now (args .index)) (pre .1)
+
+number-list-requires : tie.Need-number-list-requires
+number-list-requires c κs =
+    let args = c .before .before .before .before .before .before .before .before .before .before .before .before .before .before .before .before .before .before .before .before .before .before .before .before .before .before .before .args in
+    let list-symbols = c .before .before .before .before .before .before .before .before .before .before .before .before .before .before .before .before .before .before .list-symbols in
+    let hold-symbols = c .before .before .before .before .before .before .before .before .before .hold-symbols in
+    let pre = c .before .before .before .before .before .before .before .before .before .before .before .before .before .before .before .before .before .before .before .before .before .before .before .before .before .before .before .pre in
+    list-number (now (args .compiled)) (now (args .assembled)) (args .filling) _ (now (args .table)) _ (now (args .steps)) _ (list-symbols .ensures) (now (args .places)) _ (hold-symbols .ensures) _ (now (args .index)) _ (pre .0) (pre .1) (hold-symbols .kept .1 .1 .1 .1 .1 .1 .1 .0)
+
+same-length : tie.Need-same-length
+same-length c = search needs
+
+same-length-2 : tie.Need-same-length-2
+same-length-2 c = search needs
+
+same-length-3 : tie.Need-same-length-3
+same-length-3 c = search needs
+
+same-length-4 : tie.Need-same-length-4
+same-length-4 c = search needs
+
+returns : tie.Need-returns
+returns c =
+    let args = c .before .before .before .before .before .before .before .before .before .before .before .before .before .before .before .before .before .before .before .before .before .before .before .before .before .before .before .before .before .before .args in
+    let list-symbols = c .before .before .before .before .before .before .before .before .before .before .before .before .before .before .before .before .before .before .before .before .before .list-symbols in
+    let hold-symbols = c .before .before .before .before .before .before .before .before .before .before .before .before .hold-symbols in
+    let number-list = c .before .before .number-list in
+    list-end (now (args .compiled)) (now (args .assembled)) (args .filling) _ (now (args .table)) _ (now (args .steps)) _ (list-symbols .ensures) (now (args .places)) _ (hold-symbols .ensures) _ _ (number-list .ensures)
+
+pub merge-list-spec : {M : Type 1} → statement M
+merge-list-spec =
+    tie.close
+    (tie.spec
+    list-symbols-requires
+    hold-symbols-requires
+    number-list-requires
+    same-length
+    same-length-2
+    same-length-3
+    same-length-4
+    returns)
