@@ -3,58 +3,38 @@
 
   tools/splice_jobs.py               writes crates/prog_splice_jobs/{data/jobs,args,stdout}
   tools/splice_jobs.py SEED COUNT    runs COUNT other jobs, made and damaged, through target/bin/prog_splice_jobs, and compares each answer with the model's and,
-                                     where the Rust (oracle/target/release/oracle) merges the job, with the sections of its object
+                                     where the Rust (oracle/target/release/oracle) merges the job, with the sections and the symbol table of its object
   tools/splice_jobs.py speed         times both on jobs that grow
 
-A job is a compiled object, an assembled one and a block file, and the lengths of the output and of the working buffers. What is expected comes from the model of
-document 01 (MODEL, by default ../shared/model): the refusals of lengths, of both objects, of the block file and of places, then 11 to 14 and 21; or the bytes that
-the merge writes over C's .text, .data, .rodata and .reginfo, one behind the other. Real jobs come from Debian's gcc-mips-linux-gnu and binutils-mips-linux-gnu: the
-model's draft is assembled. The program has no say.
+A job is a compiled object, an assembled one and a block file, a path and a statics mode, and the lengths of the output and of the working buffers. What is expected
+comes from the model of document 01 (MODEL, by default ../shared/model): the refusals of lengths, of both objects, of the block file and of places, then 11 to 19 and
+21; or the bytes that the merge writes over C's .text, .data, .rodata and .reginfo, one behind the other, the number of local entries of the result's symbol table,
+and that table. Real jobs come from Debian's gcc-mips-linux-gnu and binutils-mips-linux-gnu, where the model's draft is assembled, and from CASES (by default
+../shared/cases/real.tar.xz); where either is not there, its jobs are those of the recorded list. The program has no say.
 """
 import os
 import random
+import shutil
 import struct
 import subprocess
 import sys
+import tarfile
 import tempfile
 import time
 
 TOP = os.path.dirname(os.path.dirname(os.path.abspath(__file__)))
 sys.path.insert(0, os.path.join(TOP, 'tools'))
 sys.path.insert(0, os.environ.get('MODEL', os.path.join(TOP, '..', 'shared', 'model')))
-import check_objects, draft_jobs, model, real_jobs  # noqa: E402
+import draft_jobs, model, real_jobs, statics_jobs, symbol_jobs  # noqa: E402
 
-KINDS = {b'.bss': 8, b'.reginfo': 0x70000006, b'.rel.text': 9, b'.rel.data': 9, b'.shstrtab': 3, b'.symtab': 2, b'.strtab': 3}
+CASES = os.environ.get('CASES', os.path.join(TOP, '..', 'shared', 'cases', 'real.tar.xz'))
+FOLDER = os.path.join(TOP, 'crates', 'prog_splice_jobs')
 WRITTEN = model.TEXT, model.DATA, model.RODATA, model.REGINFO
 LATE_LABELS = b'_asmpp_late_rodata_start', b'_asmpp_late_rodata_end'
-ROOM = 1310720                                  # the program's output, where a job does not say less
-BUFFERS = 49152, 32768, 291920, 8192            # docs/SIZES.md: the tables of blocks, of places, of the late step and of spans
 SH_TYPE, SH_LINK, SH_INFO, SH_ENTSIZE = 1, 6, 7, 9
 
 
 # ---------------------------------------------------------------- made objects
-
-def made(sections, symbols):
-    """an object of sections (name: bytes, or a size for .bss) and symbols (name, section's name, value)"""
-    names = list(sections)
-    strings, entries = b'\0', b'\0' * 16
-    for name, section, value in symbols:
-        entries += struct.pack('>IIIBBH', len(strings), value, 0, 16, 0, names.index(section) + 1 if section in names else 0)
-        strings += name + b'\0'
-    table = b'\0' + b''.join(n + b'\0' for n in names + [b'.shstrtab', b'.symtab', b'.strtab'])
-    body, heads = b'', [check_objects.section_header(kind=0)]
-    for name, data in list(sections.items()) + [(b'.shstrtab', table), (b'.symtab', entries), (b'.strtab', strings)]:
-        kind = KINDS.get(name, 1)
-        more = dict(link=len(names) + 3, info=1, entsize=16) if kind == 2 else {}
-        if kind == 9:
-            more = dict(link=len(names) + 2, info=names.index(name[4:]) + 1, entsize=8)
-        size = data if kind == 8 else len(data)
-        heads.append(check_objects.section_header(table.index(b'\0' + name + b'\0') + 1, kind, 3, 0, 52 + len(body), size, align=4, **more))
-        body += b'' if kind == 8 else data
-    body += bytes(-len(body) % 4)
-    head = b'\x7fELF' + bytes([1, 2, 1]) + bytes(9) + struct.pack('>HHIIIIIHHHHHH', 1, 8, 1, 0, 0, 52 + len(body), 0, 52, 0, 0, 40, len(heads), len(names) + 1)
-    return head + body + b''.join(heads)
-
 
 class Splice:
     """the parts of a job, each of which a variation may change"""
@@ -91,14 +71,15 @@ class Splice:
             self.a_symbols += [(LATE_LABELS[0], b'.late_rodata', 8), (LATE_LABELS[1], b'.late_rodata', 8 + need)]
 
     def job(self):
-        return made(self.c, self.c_symbols), made(self.a, self.a_symbols), b''.join(draft_jobs.block(**b) for b in self.blocks)
+        file = b''.join(draft_jobs.block(**b) for b in self.blocks)
+        return symbol_jobs.Job(symbol_jobs.made(self.c, self.c_symbols), symbol_jobs.made(self.a, self.a_symbols), file)
 
 
 def set_symbol(symbols, which, **new):
     """that symbol with another value or section; nothing where it is not there"""
-    for i, (n, section, value) in enumerate(symbols):
-        if n == which:
-            symbols[i] = (new.get('name', n), new.get('section', section), new.get('value', value))
+    for i, s in enumerate(symbols):
+        if s[0] == which:
+            symbols[i] = symbol_jobs.Sym(*s)._replace(**new)
 
 
 def first_end(splice):
@@ -148,11 +129,11 @@ def damaged_jobs(count, seed):
     """bytes changed anywhere in a job"""
     chance = random.Random(seed)
     for _ in range(count):
-        job = [bytearray(x) for x in Splice(chance).job()]
+        job = [bytearray(x) for x in Splice(chance).job()[:3]]
         for _ in range(chance.randrange(1, 3)):
             part = chance.choice(job)
             part[chance.randrange(len(part))] ^= 1 << chance.randrange(8)
-        yield tuple(bytes(x) for x in job)
+        yield symbol_jobs.Job(*map(bytes, job))
 
 
 # ---------------------------------------------------------------- jobs at a limit
@@ -165,26 +146,27 @@ def whole():
 def length_jobs():
     """refusals 1 and 21: lengths at what is asked for and one below or above it"""
     for job in (Splice(random.Random(3), blocks=1, late=False).job(), whole().job()):
-        size = len(expected(*job)[1])
+        size = len(expected(job)[1])
         for room in (0, size - 1, size, size + 1):
-            yield *job, room
-    c, a, file = job
-    for k, least in enumerate(BUFFERS):
+            yield job._replace(room=room)
+    for k, least in enumerate(symbol_jobs.BUFFERS):
         for length in (0, least - 1):
-            yield *job, ROOM, BUFFERS[:k] + (length,) + BUFFERS[k + 1:]
+            yield job._replace(buffers=symbol_jobs.BUFFERS[:k] + (length,) + symbol_jobs.BUFFERS[k + 1:])
+    # Without a path the zeros at the end of a file are not stored.
+    job = job._replace(path=b'')
     for length in (model.FILE_LIMIT, model.FILE_LIMIT + 1):
-        yield c.ljust(length, b'\0'), b'', b''
-        yield c, a.ljust(length, b'\0'), b''
-        yield c, a, file.ljust(length, b'\0')
-    yield b'', b'', b'x', 0, (0, 0, 0, 0)                           # 1 before all others
+        yield job._replace(compiled=job.compiled.ljust(length, b'\0'), assembled=b'', file=b'')
+        yield job._replace(assembled=job.assembled.ljust(length, b'\0'), file=b'')
+        yield job._replace(file=job.file.ljust(length, b'\0'))
+    yield symbol_jobs.Job(b'', b'', b'x', room=0, buffers=(0, 0, 0, 0))     # 1 before all others
     splice = whole()
     splice.c[b'.rodata'] = bytes(99)
-    yield *splice.job(), 0                                          # 14 before 21
+    yield splice.job()._replace(room=0)                             # 14 before 21
 
 
 def header_jobs():
     """refusal 2: each field of C's file header and of A's, and files that are too short"""
-    c, a, file = whole().job()
+    c, a, file = whole().job()[:3]
     for at, new in [(at, bytes([c[at] ^ 1])) for at in (0, 1, 2, 3, 4, 5, 17, 19, 31, 46)] + [(32, bytes(4)), (50, bytes(2))]:
         yield model.splice(c, at, new), a, file
         yield c, model.splice(a, at, new), file
@@ -199,7 +181,7 @@ def table_jobs():
     splice = whole()
     for sections in (splice.c, splice.a):
         sections.update({b'.rel.text': bytes(16), b'.rel.data': bytes(8)})
-    c, a, file = splice.job()
+    c, a, file = splice.job()[:3]
     yield c, a, file
 
     def wrong(b, sections, table, field, value):
@@ -237,12 +219,11 @@ def place_jobs():
         yield splice.job()
     yield changed((0, 'data', None, 8), (1, 'text', 0, 0)).job()    # 9 in block 0 before 8 in block 1
     yield changed((0, 'text', 0, 4), (0, 'data', None, 8)).job()    # 8 before 9 in a line
-    c, _, file = changed((1, 'bss', 0, 0)).job()
-    yield c, b'', file                                              # 8 before A's 2
+    yield changed((1, 'bss', 0, 0)).job()._replace(assembled=b'')   # 8 before A's 2
 
 
 def limit_jobs():
-    return [*length_jobs(), *header_jobs(), *table_jobs(), *place_jobs()]
+    return [symbol_jobs.Job(*job) for job in (*length_jobs(), *header_jobs(), *table_jobs(), *place_jobs())]
 
 
 # ---------------------------------------------------------------- real jobs
@@ -253,7 +234,14 @@ def late_blocks(blocks):
     return blocks.replace(b'jtbl=0\n', b'dummy=e0123456\ndummy=e0123457\njtbl=4\n', 1).replace(b'end=\n', b'late=.word 1, 2\nlate=.word 3\nend=\n', 1)
 
 
-def real_splices():
+def in_modes(compiled, assembled, file, path=b'c.o'):
+    """a real job in each mode where C has statics, else in mode 0"""
+    has = model.first_named(model.named_sections(compiled), b'.mdebug') is not None
+    return [symbol_jobs.Job(compiled, assembled, file, path, mode) for mode in (range(4) if has else (0,))]
+
+
+def compiled_splices():
+    """C compiled from each source with each set of options, and the model's draft assembled"""
     with tempfile.TemporaryDirectory() as d:
         for source in real_jobs.SOURCES:
             for options in real_jobs.OPTIONS:
@@ -269,52 +257,112 @@ def real_splices():
                     machine = [x for x in options if x.startswith(('-mabi', '-mips'))]
                     subprocess.run(['mips-linux-gnu-as', '-EB', '-mno-pdr', *machine, 'a.s', '-o', 'a.o'], check=True, cwd=d)
                     with open(os.path.join(d, 'a.o'), 'rb') as f:
-                        yield compiled, f.read(), file
+                        yield from in_modes(compiled, f.read(), file)
+
+
+def stored_cases():
+    """(name, C, A, block file, path, mode) of each job of CASES"""
+    with tarfile.open(CASES) as tar:
+        held = {m.name: tar.extractfile(m).read() for m in tar if m.isfile()}
+    for folder in sorted(os.path.dirname(name) for name in held if name.endswith('/a.o')):
+        path, _, mode = held[folder + '/settings'].split(b'\n')[:3]
+        yield os.path.basename(folder), held[folder + '/c.o'], held[folder + '/a.o'], held[folder + '/blocks'], path, int(mode)
+
+
+def debug_splices():
+    """a stored job whose C has a .mdebug from gas, in each mode"""
+    for name, compiled, assembled, file, path, _ in stored_cases():
+        if name == 'mdebug_01':
+            yield from in_modes(compiled, assembled, file, path)
+
+
+def recorded():
+    """the jobs of the recorded list"""
+    with open(os.path.join(FOLDER, 'data', 'jobs'), 'rb') as f:
+        data = f.read()
+    while data:
+        *lengths, stored, mode, room = struct.unpack('>7I', data[:28])
+        held, data = data[44:44 + stored].ljust(sum(lengths), b'\0'), data[44:]
+        parts = [held[sum(lengths[:k]):sum(lengths[:k + 1])] for k in range(4)]
+        yield symbol_jobs.Job(*parts, mode, room)
+        data = data[stored:]
+
+
+def real_splices():
+    """real jobs, made anew or those of the recorded list, which are known by a section that the toolchain adds; those with a .mdebug last"""
+    old = [job for job in recorded() if b'\0.gnu.attributes\0' in job.compiled]
+    has_debug = lambda job: b'\0.mdebug\0' in job.compiled  # noqa: E731
+    plain = compiled_splices() if shutil.which('mips-linux-gnu-gcc') else [job for job in old if not has_debug(job)]
+    return [*plain, *(debug_splices() if os.path.exists(CASES) else [job for job in old if has_debug(job)])]
 
 
 # ---------------------------------------------------------------- what is expected
 
-def expected(compiled, assembled, file, room=ROOM, buffers=BUFFERS):
-    """the model's refusal of these stages, or the bytes of the four sections"""
-    if max(map(len, (compiled, assembled, file))) > model.FILE_LIMIT or any(n < least for n, least in zip(buffers, BUFFERS)):
-        return 'refused', 1, 0, 0
-    r = model.object_refusal(compiled, model.OBJ_C)
+def symbol_table(c, a, blocks, spans, live, late, path, mode):
+    """refusal 15, 16, 17, 18 or 19, or the number of local entries of the result's symbol table and that table"""
+    r = model.refusal(15, model.faults_15(c, a)) or model.refusal(16, model.faults_16(a, late))
     if r:
         return r
-    blocks, line = model.parse_blocks(file)
+    place, statics = None, []
+    debug = model.first_named(c.sections, b'.mdebug')
+    if mode != 0 and debug is not None:
+        place, statics = model.walk_statics(c, c.sections[debug].data)
+    if place is not None:
+        return 'refused', 17, 1, place
+    listed = model.symbol_list(c, a, late, blocks, spans, live, statics, path, mode)
+    r = model.refusal(18, model.faults_18(listed)) or model.refusal(19, model.faults_19(listed))
+    if r:
+        return r
+    order = [listed[p].symbol for p in model.result_order(listed)]
+    local = 1 + sum(s.st_bind == model.STB_LOCAL for s in order)
+    return 'ok', model.w32(local) + bytes(16) + b''.join(map(model.write_symbol, order))
+
+
+def expected(job):
+    """the model's refusal of these stages, or the bytes of the four sections, the number of local entries and the symbol table"""
+    if model.faults_1(job[:3], job.path, 0, job.mode) or any(n < least for n, least in zip(job.buffers, symbol_jobs.BUFFERS)):
+        return 'refused', 1, 0, 0
+    r = model.object_refusal(job.compiled, model.OBJ_C)
+    if r:
+        return r
+    blocks, line = model.parse_blocks(job.file)
     if line is not None:
         return 'refused', 7, 0, line
-    c = model.read_object(compiled)
+    c = model.read_object(job.compiled)
     r, spans, live = model.walk_blocks(c, blocks)
-    r = r or model.object_refusal(assembled, model.OBJ_A)
+    r = r or model.object_refusal(job.assembled, model.OBJ_A)
     if r:
         return r
-    a = model.read_object(assembled)
-    late = model.late_step(blocks, live)
-    r = (model.refusal(11, model.faults_11(c, a, spans, late)) or model.refusal(12, model.faults_12(a, spans))
-         or model.refusal(13, model.faults_13(a, blocks, live) if late else []))
+    a = model.read_object(job.assembled)
+    runs_late = model.late_step(blocks, live)
+    r = (model.refusal(11, model.faults_11(c, a, spans, runs_late)) or model.refusal(12, model.faults_12(a, spans))
+         or model.refusal(13, model.faults_13(a, blocks, live) if runs_late else []))
     if r:
         return r
     held = {code: c.sections[model.find(c, code)].data if model.find(c, code) is not None else b'' for code in model.NAME}
     for code in model.COPY_CODES:
         if any(s.code == code for s in spans):
             held[code] = model.copy_spans(held[code], a.sections[model.find(a, code)].data, spans, code)
-    if late:
-        block, moves = model.late_moves(c, a, blocks, spans, live)
+    late = model.Late({}, frozenset(), None)
+    if runs_late:
+        block, late = model.late_moves(c, a, blocks, spans, live)
         if block is not None:
             return 'refused', 14, 1, block
-        held[model.RODATA] = moves.rodata
+        held[model.RODATA] = late.rodata
     if held[model.REGINFO]:
         held[model.REGINFO] = model.or_reginfo(held[model.REGINFO], a.sections[model.find(a, model.REGINFO)].data)
-    out = b''.join(held[code] for code in WRITTEN)
-    return ('ok', out) if len(out) <= room else ('refused', 21, 0, len(out))
+    got = symbol_table(c, a, blocks, spans, live, late, job.path, job.mode)
+    if got[0] == 'refused':
+        return got
+    out = b''.join(held[code] for code in WRITTEN) + got[1]
+    return ('ok', out) if len(out) <= job.room else ('refused', 21, 0, len(out))
 
 
-def packed(compiled, assembled, file, room=ROOM, buffers=BUFFERS):
+def packed(job):
     """a job in the list; zeros at the end of its files are left out"""
-    files = compiled, assembled, file
+    files = job[:4]
     stored = b''.join(files).rstrip(b'\0')
-    return struct.pack('>9I', *map(len, files), len(stored), room, *buffers) + stored
+    return struct.pack('>11I', *map(len, files), len(stored), job.mode, job.room, *job.buffers) + stored
 
 
 def written(k, got):
@@ -332,47 +380,164 @@ class Rust:
             sys.exit(f'{real_jobs.ORACLE} is not there: cargo build --release in oracle/')
         self.process = subprocess.Popen([real_jobs.ORACLE, 'serve'], stdin=subprocess.PIPE, stdout=subprocess.PIPE)
 
-    def merged(self, compiled, assembled, file, path=b'c.o', mode=0):
-        """the merged object, with no section dropped; nothing where the Rust has none"""
+    def ask(self, compiled, assembled, file, path=b'c.o', mode=0):
+        """0 and the merged object, with no section dropped; 1 and why the Rust refuses; 2 where the oracle gives no verdict"""
         fields = (compiled, assembled, b'', file, path)
         self.process.stdin.write(b'\x01' + b''.join(struct.pack('>I', len(x)) + x for x in fields) + bytes([0, mode]))
         self.process.stdin.flush()
         kind, length = struct.unpack('>BI', self.process.stdout.read(5))
-        answer = self.process.stdout.read(length)
+        return kind, self.process.stdout.read(length)
+
+    def merged(self, *job):
+        """the merged object; nothing where the Rust has none"""
+        kind, answer = self.ask(*job)
         return model.read_object(answer) if kind == 0 else None
 
-    def sections(self, compiled, assembled, file):
-        """the bytes of the four sections of the merged object, in which path and mode play no part; nothing where the Rust has none"""
-        merged = self.merged(compiled, assembled, file)
-        if merged is None:
-            return None
-        return b''.join(merged.sections[at].data for at in (model.find(merged, code) for code in WRITTEN) if at is not None)
+
+def result_of(merged):
+    """what is expected of a job, as a merged object has it"""
+    table = merged.sections[merged.symtab]
+    held = [merged.sections[at].data for at in (model.find(merged, code) for code in WRITTEN) if at is not None]
+    return b''.join(held) + model.w32(table.sh_info) + table.data
+
+
+def header_rows(b, number, place):
+    """rows of docs/DIFFERENCES.md about an object's header and sections, and whether it meets them"""
+    if number == 2:
+        yield 'EI_DATA 1 (little-endian)', place == 5 and b[5] == 1
+        yield 'e_shentsize other than 40', place == 46 and model.be16(b, 46) > 40
+    if number == 3 and place == 0:
+        yield 'e_shnum 0', model.be16(b, 48) == 0
+        yield 'more than 128 sections', model.be16(b, 48) > model.SECTION_LIMIT
+    if number == 3 and model.header_inside(b, place):
+        s = model.section_header(b, place)
+        yield 'section 0 of another type or with a size; a later section of type 0', (s.sh_type != 0 or s.sh_size != 0) if place == 0 else s.sh_type == 0
+        yield 'sh_addralign over 65,536', s.sh_addralign > model.ALIGN_LIMIT
+        yield '.text, .data, .rodata, .late_rodata, .bss or .reginfo of another type', not model.faults_3(b) and place in model.faults_3_by_name(b)
+
+
+def table_rows(b, number, place):
+    """the same about its symbol table and its relocation tables"""
+    sections = model.named_sections(b)
+    if number == 5 and model.symtab_index(sections) is not None:
+        t = sections[model.symtab_index(sections)]
+        yield 'no entries in the symbol table, or more than 4,096', place == 0 and not 1 <= t.sh_size // 16 <= model.SYMBOL_LIMIT
+        yield 'symbol 0 not all zeros, or with a name', place == 0 and model.symtab_ok(sections)
+        yield "a symbol's section index from the count to FEFF hex", place > 0 and len(sections) <= model.be16(t.data, 16 * place + 14) < model.SHN_LORESERVE
+    if number == 6:
+        t = sections[place]
+        size = model.ENTRY[t.sh_type]
+        yield 'relocations longer than 8 bytes (REL) or 12 (RELA), or of another size in an empty table', t.sh_entsize > size or t.sh_entsize != size and t.sh_size == 0
+        yield 'a relocation table whose sh_link is not the symbol table', t.sh_link != model.symtab_index(sections)
+
+
+def symbol_rows(job, number, place):
+    """the same about A's symbols and C's statics"""
+    if number == 15:
+        a = model.read_object(job.assembled)
+        y = a.symbols[place]
+        second = model.placed(y) and y.st_shndx < len(a.sections) and a.sections[y.st_shndx].name in [model.NAME[code] for code in model.SOURCE_CODES]
+        yield 'a symbol of A that is taken over, in a second section of one of the five names', second and model.code_of(a, y.st_shndx) is None
+    if number == 17:
+        yield 'a static whose name is over 1,024 bytes, or more than 4,096 statics', over_limits(job.compiled)
+
+
+def over_limits(compiled):
+    """whether the walk over C's statics is refused for its limits alone"""
+    c, held = model.read_object(compiled), (model.STATIC_LIMIT, model.STATIC_NAME_LIMIT)
+    debug = c.sections[model.first_named(c.sections, b'.mdebug')].data
+    model.STATIC_LIMIT = model.STATIC_NAME_LIMIT = len(compiled) + (1 << 20)
+    try:
+        return model.walk_statics(c, debug)[0] is None
+    finally:
+        model.STATIC_LIMIT, model.STATIC_NAME_LIMIT = held
+
+
+def row_of(job, number, who, place):
+    """the row of docs/DIFFERENCES.md that a refused job meets; nothing where it meets none"""
+    b = job.assembled if who == model.OBJ_A else job.compiled
+    if number == 7:
+        return 'a bad block file, which is not asked of the Rust'
+    rows = header_rows(b, number, place) if number < 5 else table_rows(b, number, place) if number < 7 else symbol_rows(job, number, place)
+    return next((name for name, met in rows if met), None)
+
+
+def later_refusal(job):
+    """whether the model refuses an accepted job by 10, 20 or the 17 of a moved debug section, which these stages do not have"""
+    return model.merge(*job[:4], 0, job.mode)[0] == 'refused'
+
+
+def not_for_rust(job):
+    """why the Rust, or the oracle, cannot have a job: its path names no file or has a stem of over 239 bytes, or a label has bytes over 127; nothing where it can"""
+    stem = os.path.splitext(os.path.basename(job.path))[0]
+    if job.path.startswith(b'/') or stem in (b'', b'.', b'..') or len(stem) > 239:
+        return 'a path that the Rust cannot have'
+    return 'bytes over 127 in a block file' if max(job.file, default=0) > 127 else None
+
+
+class Beside:
+    """answers held against the Rust's, and how many there are of each kind"""
+
+    def __init__(self):
+        self.rust, self.counts, self.wrong = Rust(), {}, 0
+
+    def hold_refusal(self, job, got, kind):
+        """how the Rust's answer to a refused job stands to the refusal, and whether that is on the list"""
+        if kind != 0:
+            return 'refused by both' if kind == 1 else 'refused here, without a verdict', True
+        row = row_of(job, *got[1:])
+        return f'refused here, merged by the Rust: {row}', row is not None
+
+    def hold_result(self, job, got, kind, answer):
+        """how the Rust's answer to an accepted job stands to the result, and whether that is on the list"""
+        if kind == 0 and result_of(model.read_object(answer)) == got[1]:
+            return 'merged alike', True
+        if kind != 0 and not_for_rust(job):
+            return f'accepted here, left out: {not_for_rust(job)}', True
+        words = 'merged otherwise' if kind == 0 else 'not merged'
+        return f'accepted here, {words} by the Rust, left out: refused by 10, 17 or 20 of the whole merge', later_refusal(job)
+
+    def hold(self, name, job, got):
+        """counts a job; prints it where the Rust differs for a reason on no list"""
+        if got[:2] in (('refused', 1), ('refused', 21)):
+            return
+        kind, answer = self.rust.ask(*job[:5])
+        words, listed = self.hold_result(job, got, kind, answer) if got[0] == 'ok' else self.hold_refusal(job, got, kind)
+        self.counts[words] = self.counts.get(words, 0) + 1
+        if not listed:
+            self.wrong += 1
+            print(f'{name}: the model has {got!r}; {words}: not on the list')
+
+    def print(self):
+        print('beside the Rust: ' + '; '.join(f'{n} {words}' for words, n in sorted(self.counts.items(), key=lambda x: -x[1])) + f'; {self.wrong} on no list')
+
+
+def other_jobs(seed, count):
+    """made and damaged jobs that are not on the list"""
+    n = count // 4
+    return [*made_jobs(seed, n), *damaged_jobs(n, seed + 1), *symbol_jobs.tangled_jobs(n, seed + 2, 9), *symbol_jobs.damaged_tables(count - 3 * n, seed + 3)]
 
 
 def compare(seed, count):
-    jobs = [*made_jobs(seed, count // 2), *damaged_jobs(count - count // 2, seed + 1)]
+    jobs = other_jobs(seed, count)
     with tempfile.NamedTemporaryFile() as f:
-        f.write(b''.join(packed(*job) for job in jobs))
+        f.write(b''.join(map(packed, jobs)))
         f.flush()
         out = subprocess.run([os.path.join(TOP, 'target', 'bin', 'prog_splice_jobs'), f.name], stdout=subprocess.PIPE, check=True).stdout
-    rust, at, accepted, merged, wrong = Rust(), 0, 0, 0, 0
+    beside, at, accepted = Beside(), 0, 0
     for k, job in enumerate(jobs):
-        got = expected(*job)
+        got = expected(job)
         line = written(k, got)
         if out[at:at + len(line)] != line:
             sys.exit(f'job {k} of seed {seed}: the model has {line[:200]!r}, the program {out[at:at + 200]!r}')
         at += len(line)
-        if got[0] == 'ok':
-            accepted += 1
-            theirs = rust.sections(*job)
-            merged += theirs is not None
-            if theirs not in (None, got[1]):
-                wrong += 1
-                print(f'job {k} of seed {seed}: the Rust has {theirs!r}, the program {got[1]!r}')
+        accepted += got[0] == 'ok'
+        beside.hold(f'job {k} of seed {seed}', job, got)
     if out[at:] != b'job %d is not there\n' % len(jobs):
         sys.exit(f'behind the last job of seed {seed} the program prints {out[at:at + 200]!r}')
-    print(f'{len(jobs)} jobs: {len(jobs) - accepted} refusals and {accepted} results as the model has them; {merged} results merged by the Rust, {wrong} of them otherwise')
-    return wrong != 0 or merged == 0
+    print(f'{len(jobs)} jobs: {len(jobs) - accepted} refusals and {accepted} results as the model has them')
+    beside.print()
+    return beside.wrong != 0 or 'merged alike' not in beside.counts
 
 
 def grown(blocks, dummies, table=8):
@@ -386,7 +551,41 @@ def grown(blocks, dummies, table=8):
     ends = [(label + end, b'.text', at) for i, label in enumerate(labels) for end, at in ((b'_asm_start', 8 * i), (b'_asm_end', 8 * i + 8))]
     ends += [(LATE_LABELS[0], b'.late_rodata', 8), (LATE_LABELS[1], b'.late_rodata', 8 + late)]
     file = b''.join(draft_jobs.block(desc=b'grown', text=b'%s 8 0' % label, dummies=[b'%08x' % x for x in w], jtbl=table) for label, w in zip(labels, words))
-    return made(c, [(label, b'.text', 8 * i) for i, label in enumerate(labels)]), made(a, ends), file
+    return symbol_jobs.Job(symbol_jobs.made(c, [(label, b'.text', 8 * i) for i, label in enumerate(labels)]), symbol_jobs.made(a, ends), file)
+
+
+def symbols_of(count, who, length):
+    """that many symbols of C (0) or A (1): some are local, some are defined in this object or in the other, some have names that the other has not"""
+    name = lambda letter, k: b'%c%04d' % (letter, k) + b'x' * (length - 5)  # noqa: E731
+    local = [symbol_jobs.Sym(name(65 + who, k), b'.text', 4 * k, 0) for k in range(count // 4)]
+    shared = [symbol_jobs.Sym(name(68, k), 0 if k % 2 == who else b'.data', 4 * k) for k in range(count // 2)]
+    return local + shared + [symbol_jobs.Sym(name(70 + who, k), b'.data', k) for k in range(count - len(local) - len(shared))]
+
+
+def grown_symbols(count, statics, length=5):
+    """a job of that many symbols in each object, each of A's used by a relocation, and that many statics, counted"""
+    has = {b'.text': bytes(16), b'.data': bytes(16)}
+    table = symbol_jobs.table_of(b'.rel.text', range(1, count + 1))
+    files = [statics_jobs.scoped(*[statics_jobs.entry(statics_jobs.STATIC, statics_jobs.DATA, 0, k) for k in range(statics)])]
+    c = {**has, b'.mdebug': lambda at: statics_jobs.debug_section(at, files)} if statics else has
+    assembled = symbol_jobs.made({**has, b'.rel.text': table}, symbols_of(count, 1, length), 1 + count // 4)
+    return symbol_jobs.Job(symbol_jobs.made(c, symbols_of(count, 0, length)), assembled, b'', mode=1 if statics else 0)
+
+
+def one_hash(doubles=12):
+    """a job whose names have one sum in base 31, by which an index of names may go"""
+    names = [b''.join((b'Aa', b'BB')[k >> i & 1] for i in range(doubles)) for k in range((1 << doubles) - 1)]
+    return symbol_jobs.Job(symbol_jobs.made({b'.data': bytes(16)}, [symbol_jobs.Sym(name, b'.data', k) for k, name in enumerate(names)]), symbol_jobs.made({}, ()), b'')
+
+
+def grown_jobs():
+    """jobs that grow, and what they have"""
+    for blocks, dummies in ((10, 3), (125, 30), (250, 30), (500, 30), (1000, 30), (1000, 4), (1000, 8), (1000, 16)):
+        yield f'{blocks} blocks with {blocks * dummies} late words', grown(blocks, dummies)
+    for count, statics in ((10, 0), (1000, 0), (2000, 0), (4000, 0), (4095, 0), (10, 1024), (10, 2048), (10, 4096), (4095, 4096)):
+        yield f'{count} symbols in each object and {statics} statics', grown_symbols(count, statics)
+    yield '4095 symbols with names of 100 bytes in each object and 4096 statics', grown_symbols(4095, 4096, 100)
+    yield '4095 symbols of one hash in C', one_hash()
 
 
 def seconds(run, times):
@@ -402,20 +601,40 @@ def seconds(run, times):
 def speed(copies=20, times=5):
     """the program's time for a job is that of a list of copies, less that of a list with none; the Rust's is that of a whole merge"""
     rust, program = Rust(), os.path.join(TOP, 'target', 'bin', 'prog_splice_jobs')
-    print('blocks, late words, bytes: microseconds of the program, of the Rust')
+    print('what a job has, bytes: microseconds of the program, of the Rust')
     with tempfile.NamedTemporaryFile() as none, tempfile.NamedTemporaryFile() as f:
         run = lambda name: subprocess.run([program, name], stdout=subprocess.DEVNULL, check=True)  # noqa: E731
-        for blocks, dummies in ((10, 3), (125, 30), (250, 30), (500, 30), (1000, 30), (1000, 4), (1000, 8), (1000, 16)):
-            job = grown(blocks, dummies)
-            if rust.sections(*job) != expected(*job)[1]:
-                sys.exit('the Rust has other sections')
+        for words, job in grown_jobs():
+            if result_of(rust.merged(*job[:5])) != expected(job)[1]:
+                sys.exit('the Rust has another result')
             f.seek(0)
             f.truncate()
-            f.write(packed(*job) * copies)
+            f.write(packed(job) * copies)
             f.flush()
             ours = (seconds(lambda: run(f.name), times) - seconds(lambda: run(none.name), times)) / copies
-            theirs = seconds(lambda: rust.sections(*job), times)
-            print(f'{blocks}, {blocks * dummies}, {sum(map(len, job))}: {1e6 * ours:.0f}, {1e6 * theirs:.0f}', flush=True)
+            theirs = seconds(lambda: rust.ask(*job[:5]), times)
+            print(f'{words}, {sum(map(len, job[:3]))}: {1e6 * ours:.0f}, {1e6 * theirs:.0f}', flush=True)
+
+
+def number_of(got):
+    """the number of a refusal, 0 for a result"""
+    return 0 if got[0] == 'ok' else got[1]
+
+
+def some(jobs, each, most=1250):
+    """the first of some jobs that take few bytes in the list: that many of each number"""
+    held = {}
+    for job in jobs:
+        same = held.setdefault(number_of(expected(job)), [])
+        if len(same) < each and len(packed(job)) <= most:
+            same.append(job)
+    return [job for number in sorted(held) for job in held[number]]
+
+
+def listed_jobs():
+    """the jobs of the recorded list"""
+    tangled, damaged = symbol_jobs.tangled_jobs(400, 5), symbol_jobs.damaged_tables(400, 6)
+    return [*made_jobs(1, 6 * len(VARIATIONS)), *damaged_jobs(60, 2), *real_splices(), *limit_jobs(), *symbol_jobs.aimed_jobs(), *some(tangled, 3), *some(damaged, 2)]
 
 
 def main():
@@ -423,20 +642,22 @@ def main():
         return speed()
     if len(sys.argv) == 3:
         sys.exit(compare(int(sys.argv[1]), int(sys.argv[2])))
-    jobs = [*made_jobs(1, 6 * len(VARIATIONS)), *damaged_jobs(60, 2), *real_splices(), *limit_jobs()]
+    jobs, beside = listed_jobs(), Beside() if os.path.exists(real_jobs.ORACLE) else None
     data, out, numbers = b'', b'', {}
     for k, job in enumerate(jobs):
-        got = expected(*job)
-        data, out = data + packed(*job), out + written(k, got)
-        number = 0 if got[0] == 'ok' else got[1]
-        numbers[number] = numbers.get(number, 0) + 1
+        got = expected(job)
+        data, out = data + packed(job), out + written(k, got)
+        numbers[number_of(got)] = numbers.get(number_of(got), 0) + 1
+        if beside:
+            beside.hold(f'job {k}', job, got)
     out += b'job %d is not there\n' % len(jobs)
-    folder = os.path.join(TOP, 'crates', 'prog_splice_jobs')
-    os.makedirs(os.path.join(folder, 'data'), exist_ok=True)
+    os.makedirs(os.path.join(FOLDER, 'data'), exist_ok=True)
     for name, content in (('data/jobs', data), ('args', b'jobs\n'), ('stdout', out)):
-        with open(os.path.join(folder, name), 'wb') as f:
+        with open(os.path.join(FOLDER, name), 'wb') as f:
             f.write(content)
     print(f'{len(jobs)} jobs, {len(data)} bytes: ' + ', '.join(f'{n} refused by {k}' if k else f'{n} accepted' for k, n in sorted(numbers.items())))
+    if beside:
+        beside.print()
 
 
 if __name__ == '__main__':

@@ -15,7 +15,7 @@ import os, random, re, struct, subprocess, sys, tempfile
 TOP = os.path.dirname(os.path.dirname(os.path.abspath(__file__)))
 sys.path.insert(0, os.path.join(TOP, 'tools'))
 sys.path.insert(0, os.environ.get('MODEL', os.path.join(TOP, '..', 'shared', 'model')))
-import model, splice_jobs  # noqa: E402
+import model, splice_jobs, symbol_jobs  # noqa: E402
 
 OUT = os.path.join(TOP, 'crates', 'prog_statics_jobs')
 DEBUG = 0x70000005
@@ -80,22 +80,8 @@ def scoped(*inner):
     return [entry(FILE), entry(PROC, TEXT), *inner, entry(END), entry(END)]
 
 
-def made(files, strings=b'n\0m\0', has=SECTIONS, size=None, kind=DEBUG, magic=0x7009, counts=None, firsts=None, records=None, bases=None, tail=b''):
-    """an object whose .mdebug has these files, each a list of entries; counts, firsts, records and bases replace what its descriptors and header say"""
-    parts = [(b'', 0, b''), (b'.shstrtab', 3, None), (b'.symtab', 2, b'\0' * 16), (b'.strtab', 3, b'\0')]
-    parts += [(n, 8 if n == b'.bss' else 1, b'' if n == b'.bss' else b'\0' * 16) for n in has]
-    names, at = b'', {}
-    for n in [p[0] for p in parts] + [b'.mdebug']:
-        at.setdefault(n, len(names))
-        names += n + b'\0'
-    body, heads = b'', []
-    for n, k, data in parts:
-        data = names if data is None else data
-        heads.append(section_header(at[n], k, offset=52 + len(body) if k else 0, size=16 if k == 8 else len(data), link=3 if k == 2 else 0,
-                                    info=1 if k == 2 else 0, entsize=16 if k == 2 else 0))
-        body += data
-    body += b'\0' * (-len(body) % 4)
-    start = 52 + len(body)
+def debug_section(start, files, strings=b'n\0m\0', magic=0x7009, counts=None, firsts=None, records=None, bases=None):
+    """a .mdebug that stands at `start` and has these files, each a list of entries; counts, firsts, records and bases replace what its descriptors and header say"""
     symbols = start + 96
     flat = b''.join(e for f in files for e in f)
     text = symbols + len(flat)
@@ -111,8 +97,26 @@ def made(files, strings=b'n\0m\0', has=SECTIONS, size=None, kind=DEBUG, magic=0x
         count = len(f) if counts is None else counts[i]
         table += struct.pack('>18I', 0, 0, 0 if bases is None else bases[i], 0, first if firsts is None else firsts[i], count, *([0] * 12))
         first += len(f)
-    debug = header + flat + strings + b'\0' * (-len(strings) % 4) + table
-    heads.append(section_header(at[b'.mdebug'], kind, offset=start, size=len(debug) if size is None else size))
+    return header + flat + strings + b'\0' * (-len(strings) % 4) + table
+
+
+def made(files, strings=b'n\0m\0', has=SECTIONS, size=None, kind=DEBUG, tail=b'', **more):
+    """an object whose .mdebug has these files, and what else a debug section is made with"""
+    parts = [(b'', 0, b''), (b'.shstrtab', 3, None), (b'.symtab', 2, b'\0' * 16), (b'.strtab', 3, b'\0')]
+    parts += [(n, 8 if n == b'.bss' else 1, b'' if n == b'.bss' else b'\0' * 16) for n in has]
+    names, at = b'', {}
+    for n in [p[0] for p in parts] + [b'.mdebug']:
+        at.setdefault(n, len(names))
+        names += n + b'\0'
+    body, heads = b'', []
+    for n, k, data in parts:
+        data = names if data is None else data
+        heads.append(section_header(at[n], k, offset=52 + len(body) if k else 0, size=16 if k == 8 else len(data), link=3 if k == 2 else 0,
+                                    info=1 if k == 2 else 0, entsize=16 if k == 2 else 0))
+        body += data
+    body += b'\0' * (-len(body) % 4)
+    debug = debug_section(52 + len(body), files, strings, **more)
+    heads.append(section_header(at[b'.mdebug'], kind, offset=52 + len(body), size=len(debug) if size is None else size))
     body += debug
     shoff = 52 + len(body)
     head = b'\x7fELF' + bytes([1, 2, 1]) + b'\0' * 9 + struct.pack('>HHIIIIIHHHHHH', 1, 8, 1, 0, 0, shoff, 0, 52, 0, 0, 40, len(heads), 1)
@@ -312,17 +316,17 @@ class Maker:
     WEIGHTS = 40, 40, 20, 20, 4, 4, 2, 2, 1
     CLASSES = TEXT, DATA, BSS, RODATA
 
-    def __init__(self, chance):
-        self.chance = chance
+    def __init__(self, chance, names=len(NAMES)):
+        self.chance, self.names, self.weights = chance, self.NAMES[:names], self.WEIGHTS[:names]
         # Bytes in front of the names leave room for the start of a file's names.
         self.strings, self.at = b'front\0', {}
-        for name in self.NAMES:
+        for name in self.names:
             self.at[name] = len(self.strings)
             self.strings += name + b'\0'
 
     def static(self, kind, level, base):
         r = self.chance
-        name, = r.choices(self.NAMES, self.WEIGHTS)
+        name, = r.choices(self.names, self.weights)
         fixed = self.NAMES.index(name)
         storage, value = (r.choice(self.CLASSES), r.getrandbits(32)) if level > 1 else (self.CLASSES[fixed % 4], 4 * fixed)
         return entry(kind, storage if r.randrange(60) else r.randrange(32), self.at[name] - base, value)
@@ -340,7 +344,8 @@ class Maker:
                 yield from self.scope(level + 1, base) if level < 4 else ()
                 yield entry(END)
 
-    def object(self):
+    def files(self):
+        """files of entries, and where their names start and what else their descriptors say"""
         r = self.chance
         bases = [r.randrange(7) for _ in range(r.choice((1, 1, 2, 3)))]
         files = [[entry(FILE), *self.scope(1, base), entry(END)] if r.randrange(6) else list(self.scope(0, base)) for base in bases]
@@ -351,8 +356,13 @@ class Maker:
         if not r.randrange(2000):
             files[0] += [entry(STATIC, DATA, self.at[b'm'] - bases[0], 4)] * r.choice((4090, 4097, 4200))
             more = {}
+        return files, dict(bases=bases, **more)
+
+    def object(self):
+        r = self.chance
+        files, more = self.files()
         has = tuple(x for x in SECTIONS if r.randrange(60))
-        b = made(files, self.strings, has=has, bases=bases, **more)
+        b = made(files, self.strings, has=has, **more)
         if not r.randrange(20):
             b = with_another(b, r.choice((struct.pack('>HH', 0x7009, 0) + bytes(92), debug_of(b).data, bytes(20))), r.randrange(2))
         return b
@@ -404,7 +414,7 @@ def other_statics(merged, before, head, statics):
 
 def beside_rust(rust, b, mode, path, bad, statics):
     """whether the Rust merges an object, and how it differs from what the program has"""
-    assembled = splice_jobs.made({}, [])
+    assembled = symbol_jobs.made({}, [])
     merged = rust.merged(b, assembled, b'', path, mode)
     if merged is None:
         return False, None

@@ -57,38 +57,38 @@ partAt at size l = take size (drop at l)
 unfoldable pub frontOf : ℕ → List ℕ → List ℕ
 frontOf at l = take at l
 
-abbrev pub blockTable : List ℕ → List ℕ
-blockTable l = partAt 0 BLOCK_TABLE l
+abbrev pub blocksPart : List ℕ → List ℕ
+blocksPart l = partAt 0 BLOCK_TABLE l
 
-abbrev pub idTable : List ℕ → List ℕ
-idTable l = partAt ROWS_AT ID_TABLE l
+abbrev pub idsPart : List ℕ → List ℕ
+idsPart l = partAt ROWS_AT ID_TABLE l
 
-abbrev pub placeTable : List ℕ → List ℕ
-placeTable l = partAt 0 PLACE_TABLE l
+abbrev pub placesPart : List ℕ → List ℕ
+placesPart l = partAt 0 PLACE_TABLE l
 
-abbrev pub holderTable : List ℕ → List ℕ
-holderTable l = partAt HOLDERS_AT POSITION_TABLE l
+abbrev pub holdersPart : List ℕ → List ℕ
+holdersPart l = partAt HOLDERS_AT POSITION_TABLE l
 
-abbrev pub lateTable : List ℕ → List ℕ
-lateTable l = partAt 0 LATE_TABLE l
+abbrev pub lateStepPart : List ℕ → List ℕ
+lateStepPart l = partAt 0 LATE_TABLE l
 
-abbrev pub usedTable : List ℕ → List ℕ
-usedTable l = partAt USED_AT USED_TABLE l
+abbrev pub usedPart : List ℕ → List ℕ
+usedPart l = partAt USED_AT USED_TABLE l
 
-abbrev pub staticTable : List ℕ → List ℕ
-staticTable l = partAt STATIC_AT STATIC_TABLE l
+abbrev pub staticsPart : List ℕ → List ℕ
+staticsPart l = partAt STATIC_AT STATIC_TABLE l
 
-abbrev pub glabelTable : List ℕ → List ℕ
-glabelTable l = partAt GLABELS_AT GLABEL_TABLE l
+abbrev pub glabelsPart : List ℕ → List ℕ
+glabelsPart l = partAt GLABELS_AT GLABEL_TABLE l
 
-abbrev pub listTable : List ℕ → List ℕ
-listTable l = partAt LIST_AT POSITION_TABLE l
+abbrev pub listPart : List ℕ → List ℕ
+listPart l = partAt LIST_AT POSITION_TABLE l
 
-abbrev pub orderTable : List ℕ → List ℕ
-orderTable l = partAt 0 POSITION_TABLE l
+abbrev pub orderPart : List ℕ → List ℕ
+orderPart l = partAt 0 POSITION_TABLE l
 
-abbrev pub numberTable : List ℕ → List ℕ
-numberTable l = partAt NUMBERS_AT POSITION_TABLE l
+abbrev pub numbersPart : List ℕ → List ℕ
+numbersPart l = partAt NUMBERS_AT POSITION_TABLE l
 
 -- the buffers are long enough
 pub record BuffersHeld (table places steps index : List ℕ) : Type 0 where

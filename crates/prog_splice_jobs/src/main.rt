@@ -1,7 +1,8 @@
-// Replays a list of jobs through the stages of the merge up to the late step, and prints the answer of each: `job K accepted LENGTH`, the bytes written over C's
-// .text, .data, .rodata and .reginfo, and LF; or `job K refused NUMBER OBJECT PLACE`. A job is nine lengths, four bytes each, the most significant first, and then
-// bytes: of the compiled object, the assembled object and the block file; of the bytes that follow, which are those of the three files up to zeros at their end;
-// of the output and of the four working buffers. The list is the file that the first argument names.
+// Replays a list of jobs through the stages of the merge up to the symbol table, and prints the answer of each: `job K accepted LENGTH`, the bytes written over C's
+// .text, .data, .rodata and .reginfo, the number of local entries and the symbol table of the result, and LF; or `job K refused NUMBER OBJECT PLACE`. A job is eleven
+// words, four bytes each, the most significant first, and then bytes: the lengths of the compiled object, the assembled object, the block file and the path; of the
+// bytes that follow, which are those of the four up to zeros at their end; the statics mode; the lengths of the output and of the four working buffers. The list is
+// the file that the first argument names.
 ghost use Prim.Native.Nat.{_≤_};
 use libc::STDOUT_FILENO;
 
@@ -16,20 +17,20 @@ fn lent(head: &[u8], at: usize, most: usize) -> usize
     n
 }
 
-fn blocks_room() -> [u8; base_scope::BLOCK_TABLE] {
-    [0u8; base_scope::BLOCK_TABLE]
+fn table_room() -> [u8; merge_buffers::BLOCK_BUFFER] {
+    [0u8; merge_buffers::BLOCK_BUFFER]
 }
 
-fn places_room() -> [u8; base_scope::PLACE_TABLE] {
-    [0u8; base_scope::PLACE_TABLE]
+fn places_room() -> [u8; merge_buffers::PLACE_BUFFER] {
+    [0u8; merge_buffers::PLACE_BUFFER]
 }
 
-fn late_room() -> [u8; base_scope::LATE_TABLE] {
-    [0u8; base_scope::LATE_TABLE]
+fn steps_room() -> [u8; merge_buffers::STEP_BUFFER] {
+    [0u8; merge_buffers::STEP_BUFFER]
 }
 
-fn rows_room() -> [u8; base_scope::SPAN_TABLE] {
-    [0u8; base_scope::SPAN_TABLE]
+fn index_room() -> [u8; merge_buffers::INDEX_BUFFER] {
+    [0u8; merge_buffers::INDEX_BUFFER]
 }
 
 fn print_accepted(out: &[u8], length: u64) {
@@ -40,24 +41,34 @@ fn print_accepted(out: &[u8], length: u64) {
     io::write_all(STDOUT_FILENO, b"\n");
 }
 
-fn splice_parts(head: &[u8], compiled: &[u8], assembled: &[u8], blocks: &[u8], out: &mut [u8]) {
-    let mut table = blocks_room();
+fn splice_parts(
+    head: &[u8],
+    compiled: &[u8],
+    assembled: &[u8],
+    blocks: &[u8],
+    path: &[u8],
+    out: &mut [u8],
+) {
+    let mut table = table_room();
     let mut places = places_room();
-    let mut late = late_room();
-    let mut rows = rows_room();
-    let t = lent(head, 20, table.len());
-    let p = lent(head, 24, places.len());
-    let l = lent(head, 28, late.len());
-    let w = lent(head, 32, rows.len());
-    let r = merge_stages::splice(
+    let mut steps = steps_room();
+    let mut index = index_room();
+    let mode = prog_cases::length_at(head, 20) as u32;
+    let t = lent(head, 28, table.len());
+    let p = lent(head, 32, places.len());
+    let s = lent(head, 36, steps.len());
+    let x = lent(head, 40, index.len());
+    let r = splice_stages::splice(
         compiled,
         assembled,
         blocks,
+        path,
+        mode,
         out,
         &mut table[0..t],
         &mut places[0..p],
-        &mut late[0..l],
-        &mut rows[0..w],
+        &mut steps[0..s],
+        &mut index[0..x],
     );
     if r.number == 0 {
         print_accepted(out, r.length);
@@ -66,40 +77,51 @@ fn splice_parts(head: &[u8], compiled: &[u8], assembled: &[u8], blocks: &[u8], o
     }
 }
 
-// Runs a job whose parts end at a, b and e of the bytes read.
-fn run_parts(head: &[u8], job: &[u8], a: usize, b: usize, e: usize, out: &mut [u8]) {
+// Runs a job whose parts end at a, b, e and p of the bytes read.
+fn run_parts(head: &[u8], job: &[u8], a: usize, b: usize, e: usize, p: usize, out: &mut [u8]) {
     if a > b {
         return;
     }
     if b > e {
         return;
     }
-    if e > job.len() {
+    if e > p {
         return;
     }
-    let size = lent(head, 16, out.len());
-    splice_parts(head, &job[0..a], &job[a..b], &job[b..e], &mut out[0..size]);
+    if p > job.len() {
+        return;
+    }
+    let size = lent(head, 24, out.len());
+    splice_parts(
+        head,
+        &job[0..a],
+        &job[a..b],
+        &job[b..e],
+        &job[e..p],
+        &mut out[0..size],
+    );
 }
 
 // Reads a job and runs it; false at the end of the list.
 fn run_job(fd: i32, job: &mut [u8], out: &mut [u8]) -> bool {
-    let mut head = [0u8; 36];
+    let mut head = [0u8; 44];
     let got = io::read_full(fd, &mut head);
-    if got < 36 {
+    if got < 44 {
         return false;
     }
     let a = prog_cases::length_at(&head, 0);
     let b = a + prog_cases::length_at(&head, 4);
     let e = b + prog_cases::length_at(&head, 8);
-    if e > job.len() {
+    let p = e + prog_cases::length_at(&head, 12);
+    if p > job.len() {
         return false;
     }
-    let stored = lent(&head, 12, e);
+    let stored = lent(&head, 16, p);
     let n = io::read_full(fd, &mut job[0..stored]);
     if n < stored {
         return false;
     }
-    run_parts(&head, job, a, b, e, out);
+    run_parts(&head, job, a, b, e, p, out);
     true
 }
 

@@ -26,7 +26,7 @@ use Rattle.blocks_file.specs.Blocks.{blockCount}
 use Rattle.blocks_places.specs.Lines.{lineCount}
 use Rattle.blocks_places.specs.Places.{Place}
 use Rattle.blocks_places.specs.Table.{placesIn, Laid}
-use Rattle.merge_buffers.specs.Buffers.{ROWS_AT, HOLDERS_AT, USED_AT, STATIC_AT, GLABELS_AT, LIST_AT, STEP_BUFFER, NUMBERS_AT, INDEX_BUFFER, blockTable, idTable, placeTable, holderTable, lateTable, usedTable, staticTable, glabelTable, listTable, orderTable, numberTable, BuffersHeld, KeptBefore}
+use Rattle.merge_buffers.specs.Buffers.{ROWS_AT, HOLDERS_AT, USED_AT, STATIC_AT, GLABELS_AT, LIST_AT, STEP_BUFFER, NUMBERS_AT, INDEX_BUFFER, blocksPart, idsPart, placesPart, holdersPart, lateStepPart, usedPart, staticsPart, glabelsPart, listPart, orderPart, numbersPart, BuffersHeld, KeptBefore}
 use Rattle.merge_buffers.proofs.Parts.{kept-part, kept-same, kept-less, kept-then, part-long}
 use Rattle.merge_sections.specs.declared.Stage.{Stage}
 use Rattle.merge_sections.specs.Stages.{StageRead, Movable}
@@ -89,7 +89,7 @@ module _ (T L H : List ℕ) (m : ℕ) where
   )
 
   module _ (statics : ℕ) (v : Verdict) (is : v ≡ verdictIn T L H m) (index : List ℕ) where
-    pub end-numbered : v ≡ Passed → (starts : List ℕ) → SymbolsNumbered T L H m starts (orderTable index) (numberTable index) → (n : Counts) → n ≡ countsOf statics starts
+    pub end-numbered : v ≡ Passed → (starts : List ℕ) → SymbolsNumbered T L H m starts (orderPart index) (numbersPart index) → (n : Counts) → n ≡ countsOf statics starts
         → NumberedEnd T L H m statics (Numbered n) index
     unfolding endVerdict
     end-numbered p starts w n e = record {
@@ -109,11 +109,11 @@ module _ (T L H : List ℕ) (m : ℕ) where
 -- ---- the list
 
 module _ (C A : List ℕ) (f : Filling) (m : ℕ) (table table1 steps steps1 : List ℕ) (w : IdsListedIn C A f m table table1 steps steps1) where
-  statics-same : staticTable steps1 ≡ staticTable steps
+  statics-same : staticsPart steps1 ≡ staticsPart steps
   statics-same = kept-part LIST_AT steps steps1 (w .keptSteps) STATIC_AT STATIC_TABLE (omega arith)
 
   pub list-hold : (places index : List ℕ) → BuffersHeld table places steps index
-      → HoldersReady (f .inputs .order) C A (staticTable steps1) (f .sources) (idTable table1) (listTable steps1) m × BuffersHeld table1 places steps1 index
+      → HoldersReady (f .inputs .order) C A (staticsPart steps1) (f .sources) (idsPart table1) (listPart steps1) m × BuffersHeld table1 places steps1 index
   list-hold places index b = (
     rw statics-same (w .listed .ready),
     record {
@@ -124,20 +124,20 @@ module _ (C A : List ℕ) (f : Filling) (m : ℕ) (table table1 steps steps1 : L
     },
   )
 
-  module _ (places places1 : List ℕ) (h : IdsHeldIn (symbolsIn (f .inputs .order) C A (staticTable steps1) (f .sources) (idTable table1)) m places places1) where
-    held-as : HoldersOf (symbolsIn (f .inputs .order) C A (staticTable steps) (f .sources) (idTable table1)) (holderTable places1) m
+  module _ (places places1 : List ℕ) (h : IdsHeldIn (symbolsIn (f .inputs .order) C A (staticsPart steps1) (f .sources) (idsPart table1)) m places places1) where
+    held-as : HoldersOf (symbolsIn (f .inputs .order) C A (staticsPart steps) (f .sources) (idsPart table1)) (holdersPart places1) m
     held-as = rw (← statics-same) (h .held)
 
-    pub list-number : (used index index1 : List ℕ) → FillReady C A (staticTable steps) used (lateTable steps) f → BuffersHeld table places steps index → length index1 ≡ length index
-        → Tables (idTable table1) (listTable steps1) (holderTable places1) m × HoldersFirst (listTable steps1) (holderTable places1) m × IdRooms (listTable steps1) m
+    pub list-number : (used index index1 : List ℕ) → FillReady C A (staticsPart steps) used (lateStepPart steps) f → BuffersHeld table places steps index → length index1 ≡ length index
+        → Tables (idsPart table1) (listPart steps1) (holdersPart places1) m × HoldersFirst (listPart steps1) (holdersPart places1) m × IdRooms (listPart steps1) m
         × BuffersHeld table1 places1 steps1 index1
     list-number used index index1 q b same =
         let p : PLACE_TABLE + POSITION_TABLE ≤ length places1 = rw (h .kept .long) (b .places-long) in
         let long = part-long HOLDERS_AT POSITION_TABLE places1 p in
-        let few = ids-few C A (staticTable steps) (lateTable steps) f (q .places) in
-        let room = chain-room C A (staticTable steps) (lateTable steps) f (idTable table1) (listTable steps1) m (w .listed) (holderTable places1) held-as (holderTable places1) (omega (arith, long, few)) in (
-          chain-tables C A (staticTable steps) (lateTable steps) f (idTable table1) (listTable steps1) m (w .listed) (holderTable places1) held-as,
-          chain-first C A (staticTable steps) (lateTable steps) f (idTable table1) (listTable steps1) m (w .listed) (holderTable places1) held-as,
+        let few = ids-few C A (staticsPart steps) (lateStepPart steps) f (q .places) in
+        let room = chain-room C A (staticsPart steps) (lateStepPart steps) f (idsPart table1) (listPart steps1) m (w .listed) (holdersPart places1) held-as (holdersPart places1) (omega (arith, long, few)) in (
+          chain-tables C A (staticsPart steps) (lateStepPart steps) f (idsPart table1) (listPart steps1) m (w .listed) (holdersPart places1) held-as,
+          chain-first C A (staticsPart steps) (lateStepPart steps) f (idsPart table1) (listPart steps1) m (w .listed) (holdersPart places1) held-as,
           record { word = λ k l. omega (arith, room .word k l, long) },
           record {
             table-long = rw (w .keptTable .long) (b .table-long);
@@ -147,7 +147,7 @@ module _ (C A : List ℕ) (f : Filling) (m : ℕ) (table table1 steps steps1 : L
           },
         )
 
-    pub list-end : (r : SymbolsEnd) (index : List ℕ) → NumberedEnd (idTable table1) (listTable steps1) (holderTable places1) m (f .sources .statics) r index
+    pub list-end : (r : SymbolsEnd) (index : List ℕ) → NumberedEnd (idsPart table1) (listPart steps1) (holdersPart places1) m (f .sources .statics) r index
         → ListEnd C A f r table table1 places places1 steps steps1 index
     list-end r index e = record {
       positions = m;
@@ -161,12 +161,12 @@ module _ (C A : List ℕ) (f : Filling) (m : ℕ) (table table1 steps steps1 : L
 
 -- ---- 17
 
-module _ (C A B : List ℕ) (s : Stage) (w : Manner) (table places steps index : List ℕ) (read : StageRead C A B s (blockTable table) (placeTable places)) where
+module _ (C A B : List ℕ) (s : Stage) (w : Manner) (table places steps index : List ℕ) (read : StageRead C A B s (blocksPart table) (placesPart places)) where
   abbrev o : ByteOrder
   o = s .inputs .order
 
   abbrev P : List Place
-  P = placesIn (placeTable places) (lineCount B)
+  P = placesIn (placesPart places) (lineCount B)
 
   other-table : Table o A (s .inputs .assembled .symbols)
   other-table = view-table o A (s .inputs .assembled) (read .read .assembled .is) (read .read .assembled .tabled)
@@ -184,7 +184,7 @@ module _ (C A B : List ℕ) (s : Stage) (w : Manner) (table places steps index :
     }
 
     module _ (held : BuffersHeld table places steps index) where
-      pub statics-glabels : Table o A (s .inputs .assembled .symbols) × Laid P B (blockTable table) (placeTable places) × (s .inputs .blocks ≡ blockCount B)
+      pub statics-glabels : Table o A (s .inputs .assembled .symbols) × Laid P B (blocksPart table) (placesPart places) × (s .inputs .blocks ≡ blockCount B)
           × BuffersHeld table places steps1 index
       statics-glabels = (
         other-table,
@@ -199,42 +199,42 @@ module _ (C A B : List ℕ) (s : Stage) (w : Manner) (table places steps index :
       )
 
       -- it does not: the glabels are read
-      module _ (movable : Movable C B s P (lateTable steps)) (passed : TakenPassed o C A P B) (marks : Within (usedBytes o A) 0 (usedTable steps)) (steps2 : List ℕ)
+      module _ (movable : Movable C B s P (lateStepPart steps)) (passed : TakenPassed o C A P B) (marks : Within (usedBytes o A) 0 (usedPart steps)) (steps2 : List ℕ)
           (g : GlabelsRead A B o P steps1 steps2) where
         early : KeptBefore STATIC_AT steps steps2
         early = kept-then STATIC_AT steps steps1 steps2 (u .kept) (kept-less GLABELS_AT STATIC_AT steps1 steps2 (g .kept) (omega arith))
 
-        late-2 : lateTable steps2 ≡ lateTable steps
+        late-2 : lateStepPart steps2 ≡ lateStepPart steps
         late-2 = kept-part STATIC_AT steps steps2 early 0 LATE_TABLE (omega arith)
 
-        used-2 : usedTable steps2 ≡ usedTable steps
+        used-2 : usedPart steps2 ≡ usedPart steps
         used-2 = kept-part STATIC_AT steps steps2 early USED_AT USED_TABLE (omega arith)
 
-        statics-2 : staticTable steps2 ≡ staticTable steps1
+        statics-2 : staticsPart steps2 ≡ staticsPart steps1
         statics-2 = kept-part GLABELS_AT steps1 steps2 (g .kept) STATIC_AT STATIC_TABLE (omega arith)
 
-        table-2 : StaticTable (w .head) C (staticTable steps2) (r .tally)
+        table-2 : StaticTable (w .head) C (staticsPart steps2) (r .tally)
         table-2 = rw statics-2 (u .listed .filled)
 
-        list-2 : staticsIn (staticTable steps2) (r .tally .count) ≡ statics o C (w .mode) (w .head)
+        list-2 : staticsIn (staticsPart steps2) (r .tally .count) ≡ statics o C (w .mode) (w .head)
         list-2 = rw statics-2 (u .listed .list)
 
-        sound-2 : StaticsSound o C (w .head) (staticsIn (staticTable steps2) (r .tally .count))
+        sound-2 : StaticsSound o C (w .head) (staticsIn (staticsPart steps2) (r .tally .count))
         sound-2 = rw list-2 (statics-sound o C (w .mode) (w .head))
 
-        fill-2 : FillStage C A P B (staticTable steps2) (lateTable steps2) (fillingOf s (w .mode) (r .tally .count))
+        fill-2 : FillStage C A P B (staticsPart steps2) (lateStepPart steps2) (fillingOf s (w .mode) (r .tally .count))
         unfolding fillingOf
         fill-2 =
-            fill-stage-of C A B s (blockTable table) (placeTable places) (staticTable steps2) (lateTable steps2) (w .head) (w .mode) (r .tally) read (rw late-2 movable) passed table-2 sound-2
+            fill-stage-of C A B s (blocksPart table) (placesPart places) (staticsPart steps2) (lateStepPart steps2) (w .head) (w .mode) (r .tally) read (rw late-2 movable) passed table-2 sound-2
 
-        marks-2 : Within (usedBytes o A) 0 (usedTable steps2)
+        marks-2 : Within (usedBytes o A) 0 (usedPart steps2)
         marks-2 = rw used-2 marks
 
         pub statics-list : (f : Filling) → f ≡ fillingOf s (w .mode) (r .tally .count) → (index1 : List ℕ) → length index1 ≡ length index
-            → FillReady C A (staticTable steps2) (usedTable steps2) (lateTable steps2) f × BuffersHeld table places steps2 index1
+            → FillReady C A (staticsPart steps2) (usedPart steps2) (lateStepPart steps2) f × BuffersHeld table places steps2 index1
         unfolding fillingOf
         statics-list f is index1 same = (
-          rw is (fill-ready C A P B (staticTable steps2) (lateTable steps2) (fillingOf s (w .mode) (r .tally .count)) fill-2 (usedTable steps2) marks-2),
+          rw is (fill-ready C A P B (staticsPart steps2) (lateStepPart steps2) (fillingOf s (w .mode) (r .tally .count)) fill-2 (usedPart steps2) marks-2),
           record {
             table-long = held .table-long;
             places-long = held .places-long;
@@ -250,16 +250,16 @@ module _ (C A B : List ℕ) (s : Stage) (w : Manner) (table places steps index :
           f = fillingOf s (w .mode) (r .tally .count)
 
           abbrev T : List ℕ
-          T = idTable table3
+          T = idsPart table3
 
           abbrev L : List ℕ
-          L = listTable steps3
+          L = listPart steps3
 
           abbrev H : List ℕ
-          H = holderTable places3
+          H = holdersPart places3
 
           abbrev U : List ℕ
-          U = staticTable steps2
+          U = staticsPart steps2
 
           abbrev starts : List ℕ
           starts = groupStarts T L H (l .positions)
@@ -275,41 +275,41 @@ module _ (C A B : List ℕ) (s : Stage) (w : Manner) (table places steps index :
           held-in = l .held
 
           list-verdict : endVerdict e ≡ symbolsVerdict t
-          list-verdict = l .end .verdict ∙ chain-verdict C A U (lateTable steps2) f T L (l .positions) (l .listed) H held-in P B fill-2 ∙ ap symbolsVerdict own-candidates
+          list-verdict = l .end .verdict ∙ chain-verdict C A U (lateStepPart steps2) f T L (l .positions) (l .listed) H held-in P B fill-2 ∙ ap symbolsVerdict own-candidates
 
           end-verdict : endVerdict e ≡ listVerdict o C A P B (w .mode) (w .head)
           unfolding listVerdict
           end-verdict = list-verdict ∙ sym (also-passed _ _ (finding-clear STATICS COMPILED _ (sym (u .listed .fault) ∙ clear)))
 
           few : l .positions ≤ ID_LIMIT
-          few = chain-tables C A U (lateTable steps2) f T L (l .positions) (l .listed) H held-in .few
+          few = chain-tables C A U (lateStepPart steps2) f T L (l .positions) (l .listed) H held-in .few
 
           ids-few-2 : idCount (f .sources) ≤ ID_LIMIT
           unfolding fillingOf
-          ids-few-2 = ids-few C A U (lateTable steps2) f (fill-ready C A P B U (lateTable steps2) f fill-2 (usedTable steps2) marks-2 .places)
+          ids-few-2 = ids-few C A U (lateStepPart steps2) f (fill-ready C A P B U (lateStepPart steps2) f fill-2 (usedPart steps2) marks-2 .places)
 
           index-long-3 : INDEX_BUFFER ≤ length index3
           index-long-3 = rw same (held .index-long)
 
-          order-long : length (orderTable index3) ≡ POSITION_TABLE
+          order-long : length (orderPart index3) ≡ POSITION_TABLE
           order-long = part-long 0 POSITION_TABLE index3 (omega (arith, index-long-3))
 
-          numbers-long : length (numberTable index3) ≡ POSITION_TABLE
+          numbers-long : length (numbersPart index3) ≡ POSITION_TABLE
           numbers-long = part-long NUMBERS_AT POSITION_TABLE index3 (omega (arith, index-long-3))
 
           module _ (n : Counts) (q : e ≡ Numbered n) where
-            numbered : SymbolsNumbered T L H (l .positions) starts (orderTable index3) (numberTable index3)
+            numbered : SymbolsNumbered T L H (l .positions) starts (orderPart index3) (numbersPart index3)
             numbered = l .end .tables n q
 
             starts-3 : StartsOf t starts
-            starts-3 = rw (← own-candidates) (chain-starts C A U (lateTable steps2) f T L (l .positions) (l .listed) H held-in P B fill-2 starts (orderTable index3) (numberTable index3) numbered)
+            starts-3 = rw (← own-candidates) (chain-starts C A U (lateStepPart steps2) f T L (l .positions) (l .listed) H held-in P B fill-2 starts (orderPart index3) (numbersPart index3) numbered)
 
-            glabels-long : length (glabelTable steps2) ≡ GLABEL_TABLE
+            glabels-long : length (glabelsPart steps2) ≡ GLABEL_TABLE
             glabels-long =
                 let long : STEP_BUFFER ≤ length steps2 = rw (early .long) (held .steps-long) in
                 part-long GLABELS_AT GLABEL_TABLE steps2 (omega (arith, long))
 
-            stage-2 : TableStage C A P B U (lateTable steps2) (glabelTable steps2) T L (orderTable index3) (l .positions) (numberingBy s w (countsOf (r .tally .count) starts))
+            stage-2 : TableStage C A P B U (lateStepPart steps2) (glabelsPart steps2) T L (orderPart index3) (l .positions) (numberingBy s w (countsOf (r .tally .count) starts))
             unfolding numberingBy countsOf fillingOf
             stage-2 = record {
               compiled = read .read .compiledSound;
@@ -325,24 +325,24 @@ module _ (C A B : List ℕ) (s : Stage) (w : Manner) (table places steps index :
               marked = g .words .words;
               filled = fill-2;
               listed = l .listed;
-              ordered = chain-order C A U (lateTable steps2) f T L (l .positions) (l .listed) H held-in P B fill-2 starts (orderTable index3) (numberTable index3) numbered (omega (arith, order-long, few));
+              ordered = chain-order C A U (lateStepPart steps2) f T L (l .positions) (l .listed) H held-in P B fill-2 starts (orderPart index3) (numbersPart index3) numbered (omega (arith, order-long, few));
               counted = starts-3 .all ∙ ap mergedCount (sym own-candidates);
             }
 
-            late-3 : lateTable steps3 ≡ lateTable steps2
+            late-3 : lateStepPart steps3 ≡ lateStepPart steps2
             late-3 = kept-part LIST_AT steps2 steps3 (l .keptSteps) 0 LATE_TABLE (omega arith)
 
-            statics-3 : staticTable steps3 ≡ staticTable steps2
+            statics-3 : staticsPart steps3 ≡ staticsPart steps2
             statics-3 = kept-part LIST_AT steps2 steps3 (l .keptSteps) STATIC_AT STATIC_TABLE (omega arith)
 
-            glabels-3 : glabelTable steps3 ≡ glabelTable steps2
+            glabels-3 : glabelsPart steps3 ≡ glabelsPart steps2
             glabels-3 = kept-part LIST_AT steps2 steps3 (l .keptSteps) GLABELS_AT GLABEL_TABLE (omega arith)
 
             counts-are : n ≡ countsOf (r .tally .count) starts
             unfolding fillingOf
             counts-are = l .end .is n q
 
-            statics-by : staticsIn (staticTable steps3) (countsOf (r .tally .count) starts .statics) ≡ statics o C (w .mode) (w .head)
+            statics-by : staticsIn (staticsPart steps3) (countsOf (r .tally .count) starts .statics) ≡ statics o C (w .mode) (w .head)
             unfolding countsOf
             statics-by = rw statics-3 list-2
 
@@ -355,7 +355,7 @@ module _ (C A B : List ℕ) (s : Stage) (w : Manner) (table places steps index :
               positions = l .positions;
               tables = rw (late-3, statics-3, glabels-3) stage-2;
               statics-are = statics-by;
-              numbers = rw (← own-candidates) (chain-numbers C A U (lateTable steps2) f T L (l .positions) (l .listed) H held-in P B fill-2 starts (orderTable index3) (numberTable index3) numbered (omega (arith, numbers-long, ids-few-2)));
+              numbers = rw (← own-candidates) (chain-numbers C A U (lateStepPart steps2) f T L (l .positions) (l .listed) H held-in P B fill-2 starts (orderPart index3) (numbersPart index3) numbered (omega (arith, numbers-long, ids-few-2)));
               locals-are = locals-by;
             })
 
@@ -374,29 +374,29 @@ module _ (C A B : List ℕ) (s : Stage) (w : Manner) (table places steps index :
 
   -- ---- 15 and 16
 
-  module _ (movable : Movable C B s P (lateTable steps)) (held : BuffersHeld table places steps index) where
-    step-in : StepIn o A P B (s .step .runs) (lateTable steps) (s .inputs .blocks)
+  module _ (movable : Movable C B s P (lateStepPart steps)) (held : BuffersHeld table places steps index) where
+    step-in : StepIn o A P B (s .step .runs) (lateStepPart steps) (s .inputs .blocks)
     step-in = record {
-      there = step-runs C A B s (blockTable table) (placeTable places) read;
+      there = step-runs C A B s (blocksPart table) (placesPart places) read;
       many = read .read .many;
       searched = codedContents o C LATE_TARGET;
-      moves = λ u. rw (← step-start C A B s (blockTable table) (placeTable places) read) (movable u);
+      moves = λ u. rw (← step-start C A B s (blocksPart table) (placesPart places) read) (movable u);
     }
 
-    pub stage-take : Viewed o A (s .inputs .assembled) × LateIn (s .step .runs) (lateTable steps) (s .inputs .blocks) × (STEP_BUFFER ≤ length steps)
-    stage-take = (read .read .assembled, step-late o A P B (s .step .runs) (lateTable steps) (s .inputs .blocks) step-in, held .steps-long)
+    pub stage-take : Viewed o A (s .inputs .assembled) × LateIn (s .step .runs) (lateStepPart steps) (s .inputs .blocks) × (STEP_BUFFER ≤ length steps)
+    stage-take = (read .read .assembled, step-late o A P B (s .step .runs) (lateStepPart steps) (s .inputs .blocks) step-in, held .steps-long)
 
     module _ (v : Verdict) (steps1 : List ℕ) (t : SymbolsTaken A s v steps steps1) where
       taken-as : v ≡ takenVerdict o C A P B
       taken-as =
           t .verdict
-          ∙ taken-is o C A (s .inputs .compiled) (s .inputs .assembled) (read .read .compiled .is) (read .read .assembled .is) P B (s .step .runs) (lateTable steps) (s .inputs .blocks) step-in
+          ∙ taken-is o C A (s .inputs .compiled) (s .inputs .assembled) (read .read .compiled .is) (read .read .assembled .is) P B (s .step .runs) (lateStepPart steps) (s .inputs .blocks) step-in
 
-      late-1 : lateTable steps1 ≡ lateTable steps
+      late-1 : lateStepPart steps1 ≡ lateStepPart steps
       late-1 = kept-part USED_AT steps steps1 (t .kept) 0 LATE_TABLE (omega arith)
 
-      pub stage-statics : v ≡ Passed → w .head ≤ HEAD_LIMIT → StageRead C A B s (blockTable table) (placeTable places) × Movable C B s P (lateTable steps1) × TakenPassed o C A P B
-          × Within (usedBytes o A) 0 (usedTable steps1) × (w .head ≤ HEAD_LIMIT) × BuffersHeld table places steps1 index
+      pub stage-statics : v ≡ Passed → w .head ≤ HEAD_LIMIT → StageRead C A B s (blocksPart table) (placesPart places) × Movable C B s P (lateStepPart steps1) × TakenPassed o C A P B
+          × Within (usedBytes o A) 0 (usedPart steps1) × (w .head ≤ HEAD_LIMIT) × BuffersHeld table places steps1 index
       stage-statics p low = (
         read,
         rw late-1 movable,

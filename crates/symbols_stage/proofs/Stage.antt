@@ -15,7 +15,7 @@ use Rattle.blocks_file.specs.Blocks.{blockCount}
 use Rattle.blocks_places.specs.Lines.{lineCount}
 use Rattle.blocks_places.specs.Places.{Place}
 use Rattle.blocks_places.specs.Table.{placesIn, Laid}
-use Rattle.merge_buffers.specs.Buffers.{ROWS_AT, BLOCK_BUFFER, HOLDERS_AT, PLACE_BUFFER, USED_AT, STATIC_AT, GLABELS_AT, LIST_AT, STEP_BUFFER, NUMBERS_AT, SPANS_AT, INDEX_BUFFER, partAt, blockTable, idTable, placeTable, holderTable, lateTable, usedTable, staticTable, glabelTable, listTable, orderTable, numberTable, BuffersHeld, KeptBefore}
+use Rattle.merge_buffers.specs.Buffers.{ROWS_AT, BLOCK_BUFFER, HOLDERS_AT, PLACE_BUFFER, USED_AT, STATIC_AT, GLABELS_AT, LIST_AT, STEP_BUFFER, NUMBERS_AT, SPANS_AT, INDEX_BUFFER, partAt, blocksPart, idsPart, placesPart, holdersPart, lateStepPart, usedPart, staticsPart, glabelsPart, listPart, orderPart, numbersPart, BuffersHeld, KeptBefore}
 use Rattle.merge_buffers.proofs.Parts.{kept-part, part-long, part-lent, put-table, put-kept}
 use Rattle.merge_inputs.specs.declared.Inputs.{Inputs}
 use Rattle.merge_sections.specs.declared.Stage.{Stage}
@@ -48,15 +48,15 @@ lent from to l = take (to - from) (drop from l)
 -- ---- 15 and 16
 
 module _ (A : List ℕ) (s : Stage) (from to : ℕ) (steps part : List ℕ) (starts : from ≡ USED_AT) (ends : to ≡ STATIC_AT) (v : Viewed (s .inputs .order) A (s .inputs .assembled))
-    (l : LateIn (s .step .runs) (lateTable steps) (s .inputs .blocks)) (room : STEP_BUFFER ≤ length steps) (same : length part ≡ length (lent from to steps))
+    (l : LateIn (s .step .runs) (lateStepPart steps) (s .inputs .blocks)) (room : STEP_BUFFER ≤ length steps) (same : length part ≡ length (lent from to steps))
     (put : part ≡ spliced (lent from to steps) 0 (usedBytes (s .inputs .order) A)) where
-  used-put : usedTable (putBack from to steps part) ≡ part
+  used-put : usedPart (putBack from to steps part) ≡ part
   used-put = put-table USED_AT USED_TABLE from to steps part (putBack from to steps part) starts ends (omega (arith, room)) same refl
 
   used-kept : KeptBefore USED_AT steps (putBack from to steps part)
   used-kept = put-kept USED_AT USED_TABLE from to steps part (putBack from to steps part) starts ends (omega (arith, room)) same refl
 
-  late-same : lateTable (putBack from to steps part) ≡ lateTable steps
+  late-same : lateStepPart (putBack from to steps part) ≡ lateStepPart steps
   late-same = kept-part USED_AT steps (putBack from to steps part) used-kept 0 LATE_TABLE (omega arith)
 
   used-long : SYMBOL_LIMIT ≤ length (lent from to steps)
@@ -64,15 +64,15 @@ module _ (A : List ℕ) (s : Stage) (from to : ℕ) (steps part : List ℕ) (sta
       let e : length (lent from to steps) ≡ USED_TABLE = ap length (part-lent USED_AT USED_TABLE from to steps starts ends) ∙ part-long USED_AT USED_TABLE steps (omega (arith, room)) in
       omega (arith, e)
 
-  used-marks : Within (usedBytes (s .inputs .order) A) 0 (usedTable (putBack from to steps part))
+  used-marks : Within (usedBytes (s .inputs .order) A) 0 (usedPart (putBack from to steps part))
   used-marks = rw (used-put, put) (used-within (s .inputs .order) A (lent from to steps) (v .tabled) used-long)
 
-  pub taken-ready : Viewed (s .inputs .order) A (s .inputs .assembled) × Within (usedBytes (s .inputs .order) A) 0 (usedTable (putBack from to steps part))
-      × LateIn (s .step .runs) (lateTable (putBack from to steps part)) (s .inputs .blocks) × (STEP_BUFFER ≤ length (putBack from to steps part))
+  pub taken-ready : Viewed (s .inputs .order) A (s .inputs .assembled) × Within (usedBytes (s .inputs .order) A) 0 (usedPart (putBack from to steps part))
+      × LateIn (s .step .runs) (lateStepPart (putBack from to steps part)) (s .inputs .blocks) × (STEP_BUFFER ≤ length (putBack from to steps part))
   taken-ready = (v, used-marks, rw late-same l, rw (used-kept .long) room)
 
   pub taken-of : (r : Verdict)
-      → r ≡ takenIn (s .inputs .compiled) (s .inputs .assembled) (s .inputs .order) A (s .step .runs) (lateTable (putBack from to steps part)) (s .inputs .blocks)
+      → r ≡ takenIn (s .inputs .compiled) (s .inputs .assembled) (s .inputs .order) A (s .step .runs) (lateStepPart (putBack from to steps part)) (s .inputs .blocks)
       → SymbolsTaken A s r steps (putBack from to steps part)
   taken-of r e = record { verdict = rw (← late-same) e; marks = used-marks; kept = used-kept }
 
@@ -90,21 +90,21 @@ statics-of C o mode head from to steps part starts ends room same r w =
 
 -- ---- glabels
 
-module _ (A B : List ℕ) (i : Inputs) (table places steps index blocks lines : List ℕ) (from to : ℕ) (b : blocks ≡ blockTable table) (p : lines ≡ placeTable places)
+module _ (A B : List ℕ) (i : Inputs) (table places steps index blocks lines : List ℕ) (from to : ℕ) (b : blocks ≡ blocksPart table) (p : lines ≡ placesPart places)
     (starts : from ≡ GLABELS_AT) (ends : to ≡ LIST_AT) (held : BuffersHeld table places steps index) where
   words-long : 4 * SYMBOL_LIMIT ≤ length (lent from to steps)
   words-long =
       let e : length (lent from to steps) ≡ GLABEL_TABLE = ap length (part-lent GLABELS_AT GLABEL_TABLE from to steps starts ends) ∙ part-long GLABELS_AT GLABEL_TABLE steps (omega (arith, held .steps-long)) in
       omega (arith, e)
 
-  pub glabels-ready : (made : List ℕ) → Table (i .order) A (i .assembled .symbols) → Laid (placesIn (placeTable places) (lineCount B)) B (blockTable table) (placeTable places)
+  pub glabels-ready : (made : List ℕ) → Table (i .order) A (i .assembled .symbols) → Laid (placesIn (placesPart places) (lineCount B)) B (blocksPart table) (placesPart places)
       → i .blocks ≡ blockCount B → SymbolIndex (i .order) A made
       → GlabelsReady (i .order) A (i .assembled .symbols) B blocks lines made × (i .blocks ≡ blockCount B) × (4 * SYMBOL_LIMIT ≤ length (lent from to steps))
   glabels-ready made t laid many x = (record { symbols = t; laid = rw (b, p) laid; indexed = x }, many, words-long)
 
   pub glabels-of : (part : List ℕ) → length part ≡ length (lent from to steps)
       → Holds (λ k. glabelWord (placesIn lines (lineCount B)) B (symbolName (i .order) A k)) (symbolCount (i .order) A) (lent from to steps) part
-      → GlabelsRead A B (i .order) (placesIn (placeTable places) (lineCount B)) steps (putBack from to steps part)
+      → GlabelsRead A B (i .order) (placesIn (placesPart places) (lineCount B)) steps (putBack from to steps part)
   glabels-of part same w =
       let put = put-table GLABELS_AT GLABEL_TABLE from to steps part (putBack from to steps part) starts ends (omega (arith, held .steps-long)) same refl in
       record {
@@ -114,13 +114,13 @@ module _ (A B : List ℕ) (i : Inputs) (table places steps index blocks lines : 
 
 -- ---- rows and list
 
-module _ (C A : List ℕ) (f : Filling) (steps statics late : List ℕ) (u : statics ≡ staticTable steps) (x : late ≡ lateTable steps) (from to : ℕ) (table : List ℕ)
+module _ (C A : List ℕ) (f : Filling) (steps statics late : List ℕ) (u : statics ≡ staticsPart steps) (x : late ≡ lateStepPart steps) (from to : ℕ) (table : List ℕ)
     (starts : from ≡ ROWS_AT) (ends : to ≡ BLOCK_BUFFER) (room : BLOCK_BUFFER ≤ length table) where
   rows-long : length (lent from to table) ≡ ID_TABLE
   rows-long = ap length (part-lent ROWS_AT ID_TABLE from to table starts ends) ∙ part-long ROWS_AT ID_TABLE table (omega (arith, room))
 
-  pub rows-room : (used : List ℕ) → FillReady C A (staticTable steps) used (lateTable steps) f → ID_ROW * idCount (f .sources) ≤ length (lent from to table)
-  rows-room used q = omega (arith, rows-long, ids-few C A (staticTable steps) (lateTable steps) f (q .places))
+  pub rows-room : (used : List ℕ) → FillReady C A (staticsPart steps) used (lateStepPart steps) f → ID_ROW * idCount (f .sources) ≤ length (lent from to table)
+  rows-room used q = omega (arith, rows-long, ids-few C A (staticsPart steps) (lateStepPart steps) f (q .places))
 
   pub filled-of : (part : List ℕ) → length part ≡ length (lent from to table) → (n : ℕ) → FilledRows C A statics late f (lent from to table) n part
       → IdsFilledIn C A f n steps table (putBack from to table part)
@@ -131,17 +131,17 @@ module _ (C A : List ℕ) (f : Filling) (steps statics late : List ℕ) (u : sta
         kept = put-kept ROWS_AT ID_TABLE from to table part (putBack from to table part) starts ends (omega (arith, room)) same refl;
       }
 
-module _ (C A : List ℕ) (f : Filling) (n : ℕ) (table tableAfter steps rows : List ℕ) (from to : ℕ) (filled : IdsFilledIn C A f n steps table tableAfter) (t : rows ≡ idTable tableAfter)
-    (starts : from ≡ LIST_AT) (ends : to ≡ STEP_BUFFER) (q : FillReady C A (staticTable steps) (usedTable steps) (lateTable steps) f) (blocks : BLOCK_BUFFER ≤ length table)
+module _ (C A : List ℕ) (f : Filling) (n : ℕ) (table tableAfter steps rows : List ℕ) (from to : ℕ) (filled : IdsFilledIn C A f n steps table tableAfter) (t : rows ≡ idsPart tableAfter)
+    (starts : from ≡ LIST_AT) (ends : to ≡ STEP_BUFFER) (q : FillReady C A (staticsPart steps) (usedPart steps) (lateStepPart steps) f) (blocks : BLOCK_BUFFER ≤ length table)
     (room : STEP_BUFFER ≤ length steps) where
   list-long : length (lent from to steps) ≡ POSITION_TABLE
   list-long = ap length (part-lent LIST_AT POSITION_TABLE from to steps starts ends) ∙ part-long LIST_AT POSITION_TABLE steps (omega (arith, room))
 
-  ids-held : ID_ROW * idCount (f .sources) ≤ length (idTable table)
-  ids-held = omega (arith, part-long ROWS_AT ID_TABLE table (omega (arith, blocks)), ids-few C A (staticTable steps) (lateTable steps) f (q .places))
+  ids-held : ID_ROW * idCount (f .sources) ≤ length (idsPart table)
+  ids-held = omega (arith, part-long ROWS_AT ID_TABLE table (omega (arith, blocks)), ids-few C A (staticsPart steps) (lateStepPart steps) f (q .places))
 
   pub ids-room : 4 * idCount (f .sources) ≤ length (lent from to steps)
-  ids-room = omega (arith, list-long, ids-few C A (staticTable steps) (lateTable steps) f (q .places))
+  ids-room = omega (arith, list-long, ids-few C A (staticsPart steps) (lateStepPart steps) f (q .places))
 
   pub listed-of : (m : ℕ) (part : List ℕ) → length part ≡ length (lent from to steps) → IdsListing (idsListed rows n) 0 m (lent from to steps) part
       → IdsListedIn C A f m table tableAfter steps (putBack from to steps part)
@@ -150,7 +150,7 @@ module _ (C A : List ℕ) (f : Filling) (n : ℕ) (table tableAfter steps rows :
       record {
         listed =
             rw put
-            (symbols-listed C A (staticTable steps) (lateTable steps) f (q .places) (idTable table) n (idTable tableAfter) (filled .rows) ids-held (lent from to steps) part m ids-room
+            (symbols-listed C A (staticsPart steps) (lateStepPart steps) f (q .places) (idsPart table) n (idsPart tableAfter) (filled .rows) ids-held (lent from to steps) part m ids-room
             (rw (← t) w));
         keptTable = filled .kept;
         keptSteps = put-kept LIST_AT POSITION_TABLE from to steps part (putBack from to steps part) starts ends (omega (arith, room)) same refl;
@@ -158,25 +158,25 @@ module _ (C A : List ℕ) (f : Filling) (n : ℕ) (table tableAfter steps rows :
 
   pub list-ready : (n ≤ ID_LIMIT) × (ID_ROW * n ≤ length rows) × (4 * n ≤ length (lent from to steps))
   list-ready =
-      let few = ids-few C A (staticTable steps) (lateTable steps) f (q .places) in
+      let few = ids-few C A (staticsPart steps) (lateStepPart steps) f (q .places) in
       let l = ap length t ∙ filled .rows .long ∙ part-long ROWS_AT ID_TABLE table (omega (arith, blocks)) in
       (omega (arith, few, filled .rows .many), omega (arith, few, filled .rows .many, l), omega (arith, ids-room, filled .rows .many))
 
 -- ---- holders
 
-module _ (C A : List ℕ) (f : Filling) (m : ℕ) (table steps places index statics rows list : List ℕ) (from to : ℕ) (u : statics ≡ staticTable steps) (t : rows ≡ idTable table)
-    (l : list ≡ listTable steps) (starts : from ≡ HOLDERS_AT) (ends : to ≡ PLACE_BUFFER)
-    (ready : HoldersReady (f .inputs .order) C A (staticTable steps) (f .sources) (idTable table) (listTable steps) m) (held : BuffersHeld table places steps index) where
+module _ (C A : List ℕ) (f : Filling) (m : ℕ) (table steps places index statics rows list : List ℕ) (from to : ℕ) (u : statics ≡ staticsPart steps) (t : rows ≡ idsPart table)
+    (l : list ≡ listPart steps) (starts : from ≡ HOLDERS_AT) (ends : to ≡ PLACE_BUFFER)
+    (ready : HoldersReady (f .inputs .order) C A (staticsPart steps) (f .sources) (idsPart table) (listPart steps) m) (held : BuffersHeld table places steps index) where
   holders-long : length (lent from to places) ≡ POSITION_TABLE
   holders-long = ap length (part-lent HOLDERS_AT POSITION_TABLE from to places starts ends) ∙ part-long HOLDERS_AT POSITION_TABLE places (omega (arith, held .places-long))
 
   pub hold-ready : HoldersReady (f .inputs .order) C A statics (f .sources) rows list m × Room ID_LIMIT index × (4 * m ≤ length (lent from to places))
   hold-ready =
-      let few = ready-few (f .inputs .order) C A (staticTable steps) (f .sources) (idTable table) (listTable steps) m ready in
+      let few = ready-few (f .inputs .order) C A (staticsPart steps) (f .sources) (idsPart table) (listPart steps) m ready in
       (rw (u, t, l) ready, record { few = omega arith; long = omega (arith, held .index-long) }, omega (arith, holders-long, few))
 
   pub held-of : (part : List ℕ) → length part ≡ length (lent from to places) → HoldersOf (symbolsIn (f .inputs .order) C A statics (f .sources) rows) part m
-      → IdsHeldIn (symbolsIn (f .inputs .order) C A (staticTable steps) (f .sources) (idTable table)) m places (putBack from to places part)
+      → IdsHeldIn (symbolsIn (f .inputs .order) C A (staticsPart steps) (f .sources) (idsPart table)) m places (putBack from to places part)
   held-of part same w =
       let put = put-table HOLDERS_AT POSITION_TABLE from to places part (putBack from to places part) starts ends (omega (arith, held .places-long)) same refl in
       record {
@@ -217,7 +217,7 @@ module _ (T L H : List ℕ) (m from to : ℕ) (index : List ℕ) (room : INDEX_B
         }
 
 pub numbered-of : (T L H : List ℕ) (m : ℕ) (starts before after : List ℕ) → starts ≡ groupStarts T L H m → OrderLeft T L H m before → NumbersLeft T L H m before after
-    → SymbolsNumbered T L H m starts (orderTable after) (numberTable after)
+    → SymbolsNumbered T L H m starts (orderPart after) (numbersPart after)
 numbered-of T L H m starts before after g o n = record {
   groups = g;
   order = rw (kept-part NUMBERS_AT before after (n .kept) 0 POSITION_TABLE (omega arith)) (o .order);

@@ -9,7 +9,7 @@ use Rattle.base_answers.specs.declared.Verdict.the-variants.{Passed, Refused}
 use Rattle.blocks_places.specs.Lines.{lineCount}
 use Rattle.blocks_places.specs.Places.{Place}
 use Rattle.blocks_places.specs.Table.{placesIn}
-use Rattle.merge_buffers.specs.Buffers.{ROWS_AT, HOLDERS_AT, USED_AT, STATIC_AT, LIST_AT, idTable, placeTable, holderTable, lateTable, staticTable, glabelTable, listTable, orderTable, numberTable, KeptBefore}
+use Rattle.merge_buffers.specs.Buffers.{ROWS_AT, HOLDERS_AT, USED_AT, STATIC_AT, LIST_AT, idsPart, placesPart, holdersPart, lateStepPart, staticsPart, glabelsPart, listPart, orderPart, numbersPart, KeptBefore}
 use Rattle.merge_sections.specs.declared.Stage.{Stage}
 use Rattle.statics_table.specs.Table.{staticsIn}
 use Rattle.statics_walk.specs.Walk.{statics}
@@ -50,14 +50,14 @@ fillingOf s mode n = record {
 pub record NumberedEnd (T L H : List ℕ) (m statics : ℕ) (r : SymbolsEnd) (index : List ℕ) : Type 0 where
   pub verdict : endVerdict r ≡ verdictIn T L H m
   pub is : (n : Counts) → r ≡ Numbered n → n ≡ countsOf statics (groupStarts T L H m)
-  pub tables : (n : Counts) → r ≡ Numbered n → SymbolsNumbered T L H m (groupStarts T L H m) (orderTable index) (numberTable index)
+  pub tables : (n : Counts) → r ≡ Numbered n → SymbolsNumbered T L H m (groupStarts T L H m) (orderPart index) (numbersPart index)
 
 -- the list with them
 pub record ListEnd (C A : List ℕ) (f : Filling) (r : SymbolsEnd) (table tableAfter places placesAfter steps stepsAfter index : List ℕ) : Type 0 where
   pub positions : ℕ
-  pub listed : SymbolsListed C A (staticTable steps) (lateTable steps) f (idTable tableAfter) (listTable stepsAfter) positions
-  pub held : HoldersOf (symbolsIn (f .inputs .order) C A (staticTable steps) (f .sources) (idTable tableAfter)) (holderTable placesAfter) positions
-  pub end : NumberedEnd (idTable tableAfter) (listTable stepsAfter) (holderTable placesAfter) positions (f .sources .statics) r index
+  pub listed : SymbolsListed C A (staticsPart steps) (lateStepPart steps) f (idsPart tableAfter) (listPart stepsAfter) positions
+  pub held : HoldersOf (symbolsIn (f .inputs .order) C A (staticsPart steps) (f .sources) (idsPart tableAfter)) (holdersPart placesAfter) positions
+  pub end : NumberedEnd (idsPart tableAfter) (listPart stepsAfter) (holdersPart placesAfter) positions (f .sources .statics) r index
   pub keptTable : KeptBefore ROWS_AT table tableAfter
   pub keptPlaces : KeptBefore HOLDERS_AT places placesAfter
   pub keptSteps : KeptBefore LIST_AT steps stepsAfter
@@ -69,23 +69,23 @@ numberingBy s w n = record { filling = fillingOf s (w .mode) (n .statics); local
 -- what is in hand of the result's symbols where nothing was refused: all that its symbol table is written by, C's own statics, and the number of each id
 pub record SymbolsHeld (C A B : List ℕ) (P : List Place) (s : Stage) (w : Manner) (n : Counts) (table steps index : List ℕ) : Type 0 where
   pub positions : ℕ
-  pub tables : TableStage C A P B (staticTable steps) (lateTable steps) (glabelTable steps) (idTable table) (listTable steps) (orderTable index) positions (numberingBy s w n)
-  pub statics-are : staticsIn (staticTable steps) (n .statics) ≡ statics (s .inputs .order) C (w .mode) (w .head)
-  pub numbers : NumbersOf (stageCandidates (s .inputs .order) C A P B (w .mode) (w .head)) (numberTable index)
+  pub tables : TableStage C A P B (staticsPart steps) (lateStepPart steps) (glabelsPart steps) (idsPart table) (listPart steps) (orderPart index) positions (numberingBy s w n)
+  pub statics-are : staticsIn (staticsPart steps) (n .statics) ≡ statics (s .inputs .order) C (w .mode) (w .head)
+  pub numbers : NumbersOf (stageCandidates (s .inputs .order) C A P B (w .mode) (w .head)) (numbersPart index)
   pub locals-are : n .locals ≡ localCount (stageCandidates (s .inputs .order) C A P B (w .mode) (w .head))
 
 -- 17 to 19
 pub record StaticsEnd (C A B : List ℕ) (s : Stage) (w : Manner) (r : SymbolsEnd) (table tableAfter places placesAfter steps stepsAfter index : List ℕ) : Type 0 where
-  pub verdict : endVerdict r ≡ listVerdict (s .inputs .order) C A (placesIn (placeTable places) (lineCount B)) B (w .mode) (w .head)
-  pub held : (n : Counts) → r ≡ Numbered n → SymbolsHeld C A B (placesIn (placeTable places) (lineCount B)) s w n tableAfter stepsAfter index
+  pub verdict : endVerdict r ≡ listVerdict (s .inputs .order) C A (placesIn (placesPart places) (lineCount B)) B (w .mode) (w .head)
+  pub held : (n : Counts) → r ≡ Numbered n → SymbolsHeld C A B (placesIn (placesPart places) (lineCount B)) s w n tableAfter stepsAfter index
   pub keptTable : KeptBefore ROWS_AT table tableAfter
   pub keptPlaces : KeptBefore HOLDERS_AT places placesAfter
   pub keptSteps : KeptBefore STATIC_AT steps stepsAfter
 
 -- 15 to 19: the tables of the stages before stay
 pub record StageEnd (C A B : List ℕ) (s : Stage) (w : Manner) (r : SymbolsEnd) (table tableAfter places placesAfter steps stepsAfter index : List ℕ) : Type 0 where
-  pub verdict : endVerdict r ≡ symbolStagesVerdict (s .inputs .order) C A (placesIn (placeTable places) (lineCount B)) B (w .mode) (w .head)
-  pub held : (n : Counts) → r ≡ Numbered n → SymbolsHeld C A B (placesIn (placeTable places) (lineCount B)) s w n tableAfter stepsAfter index
+  pub verdict : endVerdict r ≡ symbolStagesVerdict (s .inputs .order) C A (placesIn (placesPart places) (lineCount B)) B (w .mode) (w .head)
+  pub held : (n : Counts) → r ≡ Numbered n → SymbolsHeld C A B (placesIn (placesPart places) (lineCount B)) s w n tableAfter stepsAfter index
   pub keptTable : KeptBefore ROWS_AT table tableAfter
   pub keptPlaces : KeptBefore HOLDERS_AT places placesAfter
   pub keptSteps : KeptBefore USED_AT steps stepsAfter

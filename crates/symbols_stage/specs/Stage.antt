@@ -10,7 +10,7 @@ use Rattle.base_scope.specs.Limits.{POSITION_TABLE}
 use Rattle.base_answers.specs.declared.Verdict.{Verdict}
 use Rattle.elf_symbols.specs.Symbols.{symbolCount, symbolName}
 use Rattle.blocks_places.specs.Places.{Place}
-use Rattle.merge_buffers.specs.Buffers.{ROWS_AT, HOLDERS_AT, USED_AT, STATIC_AT, GLABELS_AT, LIST_AT, NUMBERS_AT, idTable, holderTable, lateTable, usedTable, staticTable, glabelTable, listTable, orderTable, numberTable, KeptBefore}
+use Rattle.merge_buffers.specs.Buffers.{ROWS_AT, HOLDERS_AT, USED_AT, STATIC_AT, GLABELS_AT, LIST_AT, NUMBERS_AT, idsPart, holdersPart, lateStepPart, usedPart, staticsPart, glabelsPart, listPart, orderPart, numbersPart, KeptBefore}
 use Rattle.merge_sections.specs.declared.Stage.{Stage}
 use Rattle.statics_walk.specs.declared.Listing.{Listing}
 use Rattle.statics_walk.specs.Walk.{staticsFault, statics}
@@ -27,34 +27,34 @@ use Rattle.symbols_chain.specs.Chain.{SymbolsListed}
 
 -- 15 and 16, and the marks of used symbols
 pub record SymbolsTaken (A : List ℕ) (s : Stage) (r : Verdict) (before after : List ℕ) : Type 0 where
-  pub verdict : r ≡ takenIn (s .inputs .compiled) (s .inputs .assembled) (s .inputs .order) A (s .step .runs) (lateTable before) (s .inputs .blocks)
-  pub marks : Within (usedBytes (s .inputs .order) A) 0 (usedTable after)
+  pub verdict : r ≡ takenIn (s .inputs .compiled) (s .inputs .assembled) (s .inputs .order) A (s .step .runs) (lateStepPart before) (s .inputs .blocks)
+  pub marks : Within (usedBytes (s .inputs .order) A) 0 (usedPart after)
   pub kept : KeptBefore USED_AT before after
 
 -- 17, and the statics
 pub record StaticsRead (C : List ℕ) (o : ByteOrder) (mode head : ℕ) (r : Listing) (before after : List ℕ) : Type 0 where
-  pub listed : StaticsListed head C (staticsFault o C mode head) (statics o C mode head) r (staticTable before) (staticTable after)
+  pub listed : StaticsListed head C (staticsFault o C mode head) (statics o C mode head) r (staticsPart before) (staticsPart after)
   pub kept : KeptBefore STATIC_AT before after
 
 -- the words of the glabels
 pub record GlabelsRead (A B : List ℕ) (o : ByteOrder) (P : List Place) (before after : List ℕ) : Type 0 where
-  pub words : Holds (λ k. glabelWord P B (symbolName o A k)) (symbolCount o A) (glabelTable before) (glabelTable after)
+  pub words : Holds (λ k. glabelWord P B (symbolName o A k)) (symbolCount o A) (glabelsPart before) (glabelsPart after)
   pub kept : KeptBefore GLABELS_AT before after
 
 -- the rows of the n ids
 pub record IdsFilledIn (C A : List ℕ) (f : Filling) (n : ℕ) (steps before after : List ℕ) : Type 0 where
-  pub rows : FilledRows C A (staticTable steps) (lateTable steps) f (idTable before) n (idTable after)
+  pub rows : FilledRows C A (staticsPart steps) (lateStepPart steps) f (idsPart before) n (idsPart after)
   pub kept : KeptBefore ROWS_AT before after
 
 -- and the list of those that are taken, with m positions
 pub record IdsListedIn (C A : List ℕ) (f : Filling) (m : ℕ) (table tableAfter steps stepsAfter : List ℕ) : Type 0 where
-  pub listed : SymbolsListed C A (staticTable steps) (lateTable steps) f (idTable tableAfter) (listTable stepsAfter) m
+  pub listed : SymbolsListed C A (staticsPart steps) (lateStepPart steps) f (idsPart tableAfter) (listPart stepsAfter) m
   pub keptTable : KeptBefore ROWS_AT table tableAfter
   pub keptSteps : KeptBefore LIST_AT steps stepsAfter
 
 -- the holders of the candidates s
 pub record IdsHeldIn (s : Candidates) (m : ℕ) (before after : List ℕ) : Type 0 where
-  pub held : HoldersOf s (holderTable after) m
+  pub held : HoldersOf s (holdersPart after) m
   pub kept : KeptBefore HOLDERS_AT before after
 
 -- a table of positions has a word for each listed id
@@ -63,9 +63,9 @@ pub record IdRooms (L : List ℕ) (m : ℕ) : Type 0 where
 
 -- the order of the result by the tables T of id rows, L of positions and H of holders, over the index
 pub record OrderLeft (T L H : List ℕ) (m : ℕ) (after : List ℕ) : Type 0 where
-  pub order : wordsIn (orderTable after) (length (orderIn T L H m RESULT-GROUPS)) ≡ orderIn T L H m RESULT-GROUPS
+  pub order : wordsIn (orderPart after) (length (orderIn T L H m RESULT-GROUPS)) ≡ orderIn T L H m RESULT-GROUPS
 
 -- and the numbers behind it
 pub record NumbersLeft (T L H : List ℕ) (m : ℕ) (before after : List ℕ) : Type 0 where
-  pub numbers : IdsNumbered T L H m m (numberTable after)
+  pub numbers : IdsNumbered T L H m m (numbersPart after)
   pub kept : KeptBefore NUMBERS_AT before after

@@ -19,7 +19,7 @@ ghost use Rattle.symbols_rows.specs.Steps.{Holders, verdictIn};
 ghost use Rattle.symbols_holders.specs.Ready.{symbolsIn, HoldersReady};
 ghost use Rattle.symbols_numbers.specs.Numbers.{Tables, HoldersFirst, groupStarts};
 ghost use Rattle.symbols_fill.specs.Fill.{FillReady};
-ghost use Rattle.merge_buffers.specs.Buffers.{BLOCK_BUFFER, PLACE_BUFFER, STEP_BUFFER, blockTable, idTable, placeTable, holderTable, lateTable, usedTable, staticTable, listTable, orderTable, numberTable, BuffersHeld};
+ghost use Rattle.merge_buffers.specs.Buffers.{BLOCK_BUFFER, PLACE_BUFFER, STEP_BUFFER, blocksPart, idsPart, placesPart, holdersPart, lateStepPart, usedPart, staticsPart, listPart, orderPart, numbersPart, BuffersHeld};
 ghost use Rattle.symbols_chain.specs.Chain.{SymbolsNumbered};
 ghost use Rattle.symbols_stage.specs.Stage.{SymbolsTaken, StaticsRead, GlabelsRead, IdsFilledIn, IdsListedIn, IdsHeldIn, IdRooms, OrderLeft, NumbersLeft};
 ghost use Rattle.symbols_stage.specs.End.{countsOf, fillingOf, NumberedEnd, ListEnd, StaticsEnd, StageEnd};
@@ -39,9 +39,9 @@ pub struct Manner {
 
 // Refusals 15 and 16, by the marks.
 fn taken_verdict(assembled: &[u8], stage: Stage, steps: &[u8]) -> Verdict
-    requires { ⌜ Viewed (stage .inputs .order) (now assembled) (stage .inputs .assembled) × Within (usedBytes (stage .inputs .order) (now assembled)) 0 (usedTable (now steps))
-        × LateIn (stage .step .runs) (lateTable (now steps)) (stage .inputs .blocks) × (STEP_BUFFER ≤ length (now steps)) ⌝ }
-    ensures { λ r. ⌜ r ≡ takenIn (stage .inputs .compiled) (stage .inputs .assembled) (stage .inputs .order) (now (assembled .entry)) (stage .step .runs) (lateTable (now (steps .entry))) (stage .inputs .blocks) ⌝ }
+    requires { ⌜ Viewed (stage .inputs .order) (now assembled) (stage .inputs .assembled) × Within (usedBytes (stage .inputs .order) (now assembled)) 0 (usedPart (now steps))
+        × LateIn (stage .step .runs) (lateStepPart (now steps)) (stage .inputs .blocks) × (STEP_BUFFER ≤ length (now steps)) ⌝ }
+    ensures { λ r. ⌜ r ≡ takenIn (stage .inputs .compiled) (stage .inputs .assembled) (stage .inputs .order) (now (assembled .entry)) (stage .step .runs) (lateStepPart (now (steps .entry))) (stage .inputs .blocks) ⌝ }
 {
     let late = merge_buffers::part(steps, 0, base_scope::LATE_TABLE);
     let used = merge_buffers::part(steps, merge_buffers::USED_AT, base_scope::USED_TABLE);
@@ -50,7 +50,7 @@ fn taken_verdict(assembled: &[u8], stage: Stage, steps: &[u8]) -> Verdict
 
 // Marks the used symbols: refusals 15 and 16.
 fn take_symbols(assembled: &[u8], stage: Stage, steps: &mut [u8]) -> Verdict
-    requires { ⌜ Viewed (stage .inputs .order) (now assembled) (stage .inputs .assembled) × LateIn (stage .step .runs) (lateTable (now steps)) (stage .inputs .blocks)
+    requires { ⌜ Viewed (stage .inputs .order) (now assembled) (stage .inputs .assembled) × LateIn (stage .step .runs) (lateStepPart (now steps)) (stage .inputs .blocks)
         × (STEP_BUFFER ≤ length (now steps)) ⌝ }
     ensures { λ r. ⌜ SymbolsTaken (now (assembled .entry)) stage r (now (steps .entry)) (now (steps .exit)) ⌝ }
 {
@@ -92,9 +92,9 @@ fn read_glabels(
     index: &mut [u8],
 )
     requires { ⌜ Table (inputs .order) (now assembled) (inputs .assembled .symbols)
-        × Laid (placesIn (placeTable (now places)) (lineCount (now file))) (now file) (blockTable (now table)) (placeTable (now places))
+        × Laid (placesIn (placesPart (now places)) (lineCount (now file))) (now file) (blocksPart (now table)) (placesPart (now places))
         × (inputs .blocks ≡ blockCount (now file)) × BuffersHeld (now table) (now places) (now steps) (now index) ⌝ }
-    ensures { λ _. ⌜ GlabelsRead (now (assembled .entry)) (now (file .entry)) (inputs .order) (placesIn (placeTable (now (places .entry))) (lineCount (now (file .entry)))) (now (steps .entry)) (now (steps .exit)) ⌝ }
+    ensures { λ _. ⌜ GlabelsRead (now (assembled .entry)) (now (file .entry)) (inputs .order) (placesIn (placesPart (now (places .entry))) (lineCount (now (file .entry)))) (now (steps .entry)) (now (steps .exit)) ⌝ }
 {
     let order = inputs.order;
     let source = inputs.assembled;
@@ -125,7 +125,7 @@ fn fill_table<'a>(
     table: &mut [u8],
     steps: &[u8],
 ) -> usize
-    requires { ⌜ FillReady (now compiled) (now assembled) (staticTable (now steps)) (usedTable (now steps)) (lateTable (now steps)) filling × (BLOCK_BUFFER ≤ length (now table))
+    requires { ⌜ FillReady (now compiled) (now assembled) (staticsPart (now steps)) (usedPart (now steps)) (lateStepPart (now steps)) filling × (BLOCK_BUFFER ≤ length (now table))
         × (STEP_BUFFER ≤ length (now steps)) ⌝ }
     ensures { λ r. ⌜ IdsFilledIn (now (compiled .entry)) (now (assembled .entry)) filling r (now (steps .entry)) (now (table .entry)) (now (table .exit)) ⌝ }
 {
@@ -153,7 +153,7 @@ fn list_symbols<'a>(
     table: &mut [u8],
     steps: &mut [u8],
 ) -> usize
-    requires { ⌜ FillReady (now compiled) (now assembled) (staticTable (now steps)) (usedTable (now steps)) (lateTable (now steps)) filling × (BLOCK_BUFFER ≤ length (now table))
+    requires { ⌜ FillReady (now compiled) (now assembled) (staticsPart (now steps)) (usedPart (now steps)) (lateStepPart (now steps)) filling × (BLOCK_BUFFER ≤ length (now table))
         × (STEP_BUFFER ≤ length (now steps)) ⌝ }
     ensures { λ r. ⌜ IdsListedIn (now (compiled .entry)) (now (assembled .entry)) filling r (now (table .entry)) (now (table .exit)) (now (steps .entry)) (now (steps .exit)) ⌝ }
 {
@@ -175,9 +175,9 @@ fn hold_symbols<'a>(
     places: &mut [u8],
     index: &mut [u8],
 )
-    requires { ⌜ HoldersReady (filling .inputs .order) (now compiled) (now assembled) (staticTable (now steps)) (filling .sources) (idTable (now table)) (listTable (now steps)) m
+    requires { ⌜ HoldersReady (filling .inputs .order) (now compiled) (now assembled) (staticsPart (now steps)) (filling .sources) (idsPart (now table)) (listPart (now steps)) m
         × BuffersHeld (now table) (now places) (now steps) (now index) ⌝ }
-    ensures { λ _. ⌜ IdsHeldIn (symbolsIn (filling .inputs .order) (now (compiled .entry)) (now (assembled .entry)) (staticTable (now (steps .entry))) (filling .sources) (idTable (now (table .entry)))) m
+    ensures { λ _. ⌜ IdsHeldIn (symbolsIn (filling .inputs .order) (now (compiled .entry)) (now (assembled .entry)) (staticsPart (now (steps .entry))) (filling .sources) (idsPart (now (table .entry)))) m
         (now (places .entry)) (now (places .exit)) ⌝ }
 {
     let inputs = filling.inputs;
@@ -203,9 +203,9 @@ fn hold_symbols<'a>(
 
 // Refusals 18 and 19, over the m positions of the list.
 fn list_verdict(m: usize, table: &[u8], steps: &[u8], places: &[u8]) -> Verdict
-    requires { ⌜ Holders (idTable (now table)) (listTable (now steps)) (holderTable (now places)) m × (BLOCK_BUFFER ≤ length (now table)) × (PLACE_BUFFER ≤ length (now places))
+    requires { ⌜ Holders (idsPart (now table)) (listPart (now steps)) (holdersPart (now places)) m × (BLOCK_BUFFER ≤ length (now table)) × (PLACE_BUFFER ≤ length (now places))
         × (STEP_BUFFER ≤ length (now steps)) ⌝ }
-    ensures { λ r. ⌜ r ≡ verdictIn (idTable (now (table .entry))) (listTable (now (steps .entry))) (holderTable (now (places .entry))) m ⌝ }
+    ensures { λ r. ⌜ r ≡ verdictIn (idsPart (now (table .entry))) (listPart (now (steps .entry))) (holdersPart (now (places .entry))) m ⌝ }
 {
     let rows = merge_buffers::part(table, merge_buffers::ROWS_AT, base_scope::ID_TABLE);
     let list = merge_buffers::part(steps, merge_buffers::LIST_AT, base_scope::POSITION_TABLE);
@@ -226,9 +226,9 @@ fn order_result(
     places: &[u8],
     index: &mut [u8],
 )
-    requires { ⌜ Tables (idTable (now table)) (listTable (now steps)) (holderTable (now places)) m
-        × (starts ≡ groupStarts (idTable (now table)) (listTable (now steps)) (holderTable (now places)) m) × BuffersHeld (now table) (now places) (now steps) (now index) ⌝ }
-    ensures { λ _. ⌜ OrderLeft (idTable (now (table .entry))) (listTable (now (steps .entry))) (holderTable (now (places .entry))) m (now (index .exit)) ⌝ }
+    requires { ⌜ Tables (idsPart (now table)) (listPart (now steps)) (holdersPart (now places)) m
+        × (starts ≡ groupStarts (idsPart (now table)) (listPart (now steps)) (holdersPart (now places)) m) × BuffersHeld (now table) (now places) (now steps) (now index) ⌝ }
+    ensures { λ _. ⌜ OrderLeft (idsPart (now (table .entry))) (listPart (now (steps .entry))) (holdersPart (now (places .entry))) m (now (index .exit)) ⌝ }
 {
     let rows = merge_buffers::part(table, merge_buffers::ROWS_AT, base_scope::ID_TABLE);
     let list = merge_buffers::part(steps, merge_buffers::LIST_AT, base_scope::POSITION_TABLE);
@@ -251,10 +251,10 @@ fn number_result(
     places: &[u8],
     index: &mut [u8],
 )
-    requires { ⌜ Tables (idTable (now table)) (listTable (now steps)) (holderTable (now places)) m × HoldersFirst (listTable (now steps)) (holderTable (now places)) m
-        × (starts ≡ groupStarts (idTable (now table)) (listTable (now steps)) (holderTable (now places)) m) × IdRooms (listTable (now steps)) m
+    requires { ⌜ Tables (idsPart (now table)) (listPart (now steps)) (holdersPart (now places)) m × HoldersFirst (listPart (now steps)) (holdersPart (now places)) m
+        × (starts ≡ groupStarts (idsPart (now table)) (listPart (now steps)) (holdersPart (now places)) m) × IdRooms (listPart (now steps)) m
         × BuffersHeld (now table) (now places) (now steps) (now index) ⌝ }
-    ensures { λ _. ⌜ NumbersLeft (idTable (now (table .entry))) (listTable (now (steps .entry))) (holderTable (now (places .entry))) m (now (index .entry)) (now (index .exit)) ⌝ }
+    ensures { λ _. ⌜ NumbersLeft (idsPart (now (table .entry))) (listPart (now (steps .entry))) (holdersPart (now (places .entry))) m (now (index .entry)) (now (index .exit)) ⌝ }
 {
     let rows = merge_buffers::part(table, merge_buffers::ROWS_AT, base_scope::ID_TABLE);
     let list = merge_buffers::part(steps, merge_buffers::LIST_AT, base_scope::POSITION_TABLE);
@@ -275,9 +275,9 @@ fn result_starts(
     steps: &[u8],
     places: &[u8],
 ) -> [usize; symbols_numbers::STARTS]
-    requires { ⌜ Tables (idTable (now table)) (listTable (now steps)) (holderTable (now places)) m × (BLOCK_BUFFER ≤ length (now table)) × (PLACE_BUFFER ≤ length (now places))
+    requires { ⌜ Tables (idsPart (now table)) (listPart (now steps)) (holdersPart (now places)) m × (BLOCK_BUFFER ≤ length (now table)) × (PLACE_BUFFER ≤ length (now places))
         × (STEP_BUFFER ≤ length (now steps)) ⌝ }
-    ensures { λ r. ⌜ r ≡ groupStarts (idTable (now (table .entry))) (listTable (now (steps .entry))) (holderTable (now (places .entry))) m ⌝ }
+    ensures { λ r. ⌜ r ≡ groupStarts (idsPart (now (table .entry))) (listPart (now (steps .entry))) (holdersPart (now (places .entry))) m ⌝ }
 {
     let rows = merge_buffers::part(table, merge_buffers::ROWS_AT, base_scope::ID_TABLE);
     let list = merge_buffers::part(steps, merge_buffers::LIST_AT, base_scope::POSITION_TABLE);
@@ -297,9 +297,9 @@ fn number_positions(
     places: &[u8],
     index: &mut [u8],
 ) -> [usize; symbols_numbers::STARTS]
-    requires { ⌜ Tables (idTable (now table)) (listTable (now steps)) (holderTable (now places)) m × HoldersFirst (listTable (now steps)) (holderTable (now places)) m
-        × IdRooms (listTable (now steps)) m × BuffersHeld (now table) (now places) (now steps) (now index) ⌝ }
-    ensures { λ r. ⌜ SymbolsNumbered (idTable (now (table .entry))) (listTable (now (steps .entry))) (holderTable (now (places .entry))) m r (orderTable (now (index .exit))) (numberTable (now (index .exit))) ⌝ }
+    requires { ⌜ Tables (idsPart (now table)) (listPart (now steps)) (holdersPart (now places)) m × HoldersFirst (listPart (now steps)) (holdersPart (now places)) m
+        × IdRooms (listPart (now steps)) m × BuffersHeld (now table) (now places) (now steps) (now index) ⌝ }
+    ensures { λ r. ⌜ SymbolsNumbered (idsPart (now (table .entry))) (listPart (now (steps .entry))) (holdersPart (now (places .entry))) m r (orderPart (now (index .exit))) (numbersPart (now (index .exit))) ⌝ }
 {
     let starts = result_starts(m, table, steps, places);
     order_result(m, starts, table, steps, places, index);
@@ -343,9 +343,9 @@ fn number_list(
     places: &[u8],
     index: &mut [u8],
 ) -> SymbolsEnd
-    requires { ⌜ Tables (idTable (now table)) (listTable (now steps)) (holderTable (now places)) m × HoldersFirst (listTable (now steps)) (holderTable (now places)) m
-        × IdRooms (listTable (now steps)) m × BuffersHeld (now table) (now places) (now steps) (now index) ⌝ }
-    ensures { λ r. ⌜ NumberedEnd (idTable (now (table .entry))) (listTable (now (steps .entry))) (holderTable (now (places .entry))) m statics r (now (index .exit)) ⌝ }
+    requires { ⌜ Tables (idsPart (now table)) (listPart (now steps)) (holdersPart (now places)) m × HoldersFirst (listPart (now steps)) (holdersPart (now places)) m
+        × IdRooms (listPart (now steps)) m × BuffersHeld (now table) (now places) (now steps) (now index) ⌝ }
+    ensures { λ r. ⌜ NumberedEnd (idsPart (now (table .entry))) (listPart (now (steps .entry))) (holdersPart (now (places .entry))) m statics r (now (index .exit)) ⌝ }
 {
     match list_verdict(m, table, steps, places) {
         Verdict::Passed => {
@@ -366,7 +366,7 @@ fn merge_list<'a>(
     steps: &mut [u8],
     index: &mut [u8],
 ) -> SymbolsEnd
-    requires { ⌜ FillReady (now compiled) (now assembled) (staticTable (now steps)) (usedTable (now steps)) (lateTable (now steps)) filling
+    requires { ⌜ FillReady (now compiled) (now assembled) (staticsPart (now steps)) (usedPart (now steps)) (lateStepPart (now steps)) filling
         × BuffersHeld (now table) (now places) (now steps) (now index) ⌝ }
     ensures { λ r. ⌜ ListEnd (now (compiled .entry)) (now (assembled .entry)) filling r (now (table .entry)) (now (table .exit)) (now (places .entry)) (now (places .exit)) (now (steps .entry)) (now (steps .exit)) (now (index .exit)) ⌝ }
 {
@@ -411,10 +411,10 @@ fn merge_statics<'a>(
     steps: &mut [u8],
     index: &mut [u8],
 ) -> SymbolsEnd
-    requires { ⌜ StageRead (now compiled) (now assembled) (now file) stage (blockTable (now table)) (placeTable (now places))
-        × Movable (now compiled) (now file) stage (placesIn (placeTable (now places)) (lineCount (now file))) (lateTable (now steps))
-        × TakenPassed (stage .inputs .order) (now compiled) (now assembled) (placesIn (placeTable (now places)) (lineCount (now file))) (now file)
-        × Within (usedBytes (stage .inputs .order) (now assembled)) 0 (usedTable (now steps)) × (manner .head ≤ HEAD_LIMIT)
+    requires { ⌜ StageRead (now compiled) (now assembled) (now file) stage (blocksPart (now table)) (placesPart (now places))
+        × Movable (now compiled) (now file) stage (placesIn (placesPart (now places)) (lineCount (now file))) (lateStepPart (now steps))
+        × TakenPassed (stage .inputs .order) (now compiled) (now assembled) (placesIn (placesPart (now places)) (lineCount (now file))) (now file)
+        × Within (usedBytes (stage .inputs .order) (now assembled)) 0 (usedPart (now steps)) × (manner .head ≤ HEAD_LIMIT)
         × BuffersHeld (now table) (now places) (now steps) (now index) ⌝ }
     ensures { λ r. ⌜ StaticsEnd (now (compiled .entry)) (now (assembled .entry)) (now (file .entry)) stage manner r (now (table .entry)) (now (table .exit)) (now (places .entry)) (now (places .exit)) (now (steps .entry)) (now (steps .exit)) (now (index .exit)) ⌝ }
 {
@@ -448,8 +448,8 @@ pub fn merge_symbols<'a>(
     steps: &mut [u8],
     index: &mut [u8],
 ) -> SymbolsEnd
-    requires { ⌜ StageRead (now compiled) (now assembled) (now file) stage (blockTable (now table)) (placeTable (now places))
-        × Movable (now compiled) (now file) stage (placesIn (placeTable (now places)) (lineCount (now file))) (lateTable (now steps)) × (manner .head ≤ HEAD_LIMIT)
+    requires { ⌜ StageRead (now compiled) (now assembled) (now file) stage (blocksPart (now table)) (placesPart (now places))
+        × Movable (now compiled) (now file) stage (placesIn (placesPart (now places)) (lineCount (now file))) (lateStepPart (now steps)) × (manner .head ≤ HEAD_LIMIT)
         × BuffersHeld (now table) (now places) (now steps) (now index) ⌝ }
     ensures { λ r. ⌜ StageEnd (now (compiled .entry)) (now (assembled .entry)) (now (file .entry)) stage manner r (now (table .entry)) (now (table .exit)) (now (places .entry)) (now (places .exit)) (now (steps .entry)) (now (steps .exit)) (now (index .exit)) ⌝ }
 {

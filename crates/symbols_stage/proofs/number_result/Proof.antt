@@ -1,7 +1,7 @@
 -- The numbers are written behind the order, which stays. Assumes nothing.
 use denote.Ref.{now}
 use Rattle.symbols_stage.proofs.Stage.{number-room, numbers-of}
-use Rattle.merge_buffers.specs.Buffers.{listTable}
+use Rattle.merge_buffers.specs.Buffers.{listPart}
 use borrow.Author.Needs.{needs}
 use Rattle.symbols_stage.proofs.number_result.Statement.{statement}
 use Rattle.symbols_stage.proofs.number_result.Tie as tie
@@ -39,7 +39,7 @@ number-ids-requires c κs =
     let args = c .before .before .before .before .before .before .before .before .before .before .args in
     let bound = c .before .before .bound in
     let bound2 = c .before .bound2 in
-    (rw (part .ensures, part2 .ensures, part3 .ensures) (pre .0), rw (part2 .ensures, part3 .ensures) (pre .1), rw (part .ensures, part2 .ensures, part3 .ensures) (pre .2), rw (part2 .ensures) (number-room (now (args .table)) (listTable (now (args .steps))) (now (args .places)) (args .m) _ _ (now (args .index)) (pre .4 .index-long) (bound .ensures) (bound2 .ensures) (pre .3)))
+    (rw (part .ensures, part2 .ensures, part3 .ensures) (pre .0), rw (part2 .ensures, part3 .ensures) (pre .1), rw (part .ensures, part2 .ensures, part3 .ensures) (pre .2), rw (part2 .ensures) (number-room (now (args .table)) (listPart (now (args .steps))) (now (args .places)) (args .m) _ _ (now (args .index)) (pre .4 .index-long) (bound .ensures) (bound2 .ensures) (pre .3)))
 
 same-length : tie.Need-same-length
 same-length c = search needs

@@ -1,0 +1,184 @@
+-- The verdict of the stages in each way through them, and what an accepted answer says of its inputs. Assumes nothing.
+use mathlib.Core.Path.{_≡_, refl, sym, ap, _∙_}
+use mathlib.Core.Bool.{Bool, true, false, not, _||_}
+use mathlib.Core.List.{List}
+use Prim.Native.Nat.{ℕ, _≤_}
+use native.Mathlib.Omega.{arith}
+use lib.ListN.{length}
+use Rattle.base_lists.specs.Rows.{hasIndex, rowIn}
+use Rattle.base_lists.proofs.Ranges.{first-high}
+use Rattle.base_fields.specs.declared.ByteOrder.{ByteOrder}
+use Rattle.base_scope.specs.Codes.{LATE_TARGET}
+use Rattle.base_scope.specs.Limits.{overLimits}
+use Rattle.base_scope.specs.declared.Finding.{Finding}
+use Rattle.base_scope.specs.declared.Finding.the-variants.{Clear, At}
+use Rattle.base_scope.specs.Refusals.{LIMITS, LATE_STEP, foundBelow}
+use Rattle.base_scope.proofs.Refusals.{found-clear}
+use Rattle.base_answers.specs.declared.Verdict.{Verdict}
+use Rattle.base_answers.specs.declared.Verdict.the-variants.{Passed, Refused}
+use Rattle.base_answers.specs.Answers.{Answer, accepted, refused, NONE, COMPILED, roomFor}
+use Rattle.base_answers.specs.Verdicts.{also, ifPassed, findingVerdict}
+use Rattle.base_answers.proofs.Verdicts.{also-passed, also-refused, also-parts, if-passed, if-refused, if-accepted, room-accepted, limit-kept, limit-broken, limit-passed, finding-clear, finding-at, finding-passed}
+use Rattle.elf_readers.specs.Readers.{orderOf, codedContents}
+use Rattle.blocks_file.specs.Blocks.{blockCount}
+use Rattle.blocks_places.specs.Lines.{lineCount}
+use Rattle.blocks_places.specs.Places.{Place, placesOf}
+use Rattle.blocks_places.specs.Table.{placesIn}
+use Rattle.blocks_spans.specs.Spans.{spansOf}
+use Rattle.blocks_spans.specs.Copied.{copied}
+use Rattle.late_length.specs.declared.LateStep.{LateStep}
+use Rattle.late_length.specs.Late.{hasLateStep}
+use Rattle.late_moves.specs.Moves.{items, isMoveFault, lateStepFault}
+use Rattle.open_inputs.specs.declared.Opened.{Opened}
+use Rattle.open_inputs.specs.declared.Opened.the-variants.{Blocks, Refused as Shut}
+use Rattle.open_inputs.specs.Opened.{openedVerdict}
+use Rattle.statics_table.specs.Statics.{nameHead}
+use Rattle.merge_inputs.specs.declared.Inputs.{Inputs}
+use Rattle.merge_inputs.specs.Verdict.{inputsVerdict, InputsPassed}
+use Rattle.merge_inputs.specs.Taken.{inputsOf, InputsRead}
+use Rattle.merge_inputs.proofs.Reading.{inputs-passed}
+use Rattle.merge_line_up.specs.declared.LinedUp.{LinedUp}
+use Rattle.merge_line_up.specs.declared.LinedUp.the-variants.{Lined, Refused as Unlined}
+use Rattle.merge_line_up.specs.LineUp.{lineUpVerdict}
+use Rattle.merge_line_up.specs.Answer.{linedVerdict, LinesUp}
+use Rattle.merge_line_up.specs.Agrees.{Agrees}
+use Rattle.merge_line_up.proofs.Agrees.{agrees-of}
+use Rattle.merge_sections.specs.declared.Stage.{Stage}
+use Rattle.merge_sections.specs.Sections.{stepFinding, lateFinding}
+use Rattle.merge_sections.specs.Stages.{StageRead}
+use Rattle.symbols_stage.specs.Verdict.{symbolStagesVerdict}
+use Rattle.symbols_stage.specs.declared.Counts.{Counts}
+use Rattle.symbols_stage.specs.declared.SymbolsEnd.{SymbolsEnd}
+use Rattle.symbols_stage.specs.declared.SymbolsEnd.the-variants.{Numbered, Refused as Unnumbered}
+use Rattle.symbols_stage.specs.End.{endVerdict}
+use Rattle.splice_stages.specs.Verdict.{spliceBounds, isPath, spliceBytes, lateVerdict, stagesVerdict, symbolsAnswer, lateAnswer, stagesAnswer, spliceVerdict, StagesPassed}
+use Rattle.splice_stages.proofs.Limits.{splice-limits}
+
+fault-high : (o : ByteOrder) (P : List Place) (B R : List ℕ) → lateStepFault o P B R ≤ blockCount B
+unfolding lateStepFault rowIn
+fault-high o P B R = first-high (hasIndex (isMoveFault o P B R) (items P B)) 0 (blockCount B) (omega arith)
+
+module _ (o : ByteOrder) (C A : List ℕ) (P : List Place) (B : List ℕ) (mode head room : ℕ) where
+  -- ---- 15 to 19
+
+  module _ (e : SymbolsEnd) (is : endVerdict e ≡ symbolStagesVerdict o C A P B mode head) where
+    pub answer-symbols : (n x p : ℕ) → e ≡ Unnumbered n x p → refused n x p ≡ symbolsAnswer o C A P B mode head room
+    unfolding symbolsAnswer endVerdict
+    answer-symbols n x p q = sym (if-refused _ _ n x p (sym is ∙ ap endVerdict q))
+
+    pub answer-result : (c : Counts) → e ≡ Numbered c → roomFor (spliceBytes o C A P B mode head) room ≡ symbolsAnswer o C A P B mode head room
+    unfolding symbolsAnswer endVerdict
+    answer-result c q = sym (if-passed _ _ (sym is ∙ ap endVerdict q))
+
+  -- ---- 14
+
+  module _ (f : Finding) (is : f ≡ lateFinding o C A P B) where
+    late-by : lateVerdict o C A P B mode head ≡ also (findingVerdict LATE_STEP COMPILED f) (symbolStagesVerdict o C A P B mode head)
+    unfolding lateVerdict
+    late-by = rw is
+
+    pub answer-14 : (block : ℕ) → f ≡ At block → refused LATE_STEP COMPILED block ≡ lateAnswer o C A P B mode head room
+    unfolding lateAnswer
+    answer-14 block t = sym (if-refused _ _ LATE_STEP COMPILED block (late-by ∙ also-refused _ _ LATE_STEP COMPILED block (finding-at LATE_STEP COMPILED f block t)))
+
+    pub answer-moved : f ≡ Clear → symbolsAnswer o C A P B mode head room ≡ lateAnswer o C A P B mode head room
+    unfolding lateAnswer symbolsAnswer
+    answer-moved t = sym (ap (λ (v : Verdict). ifPassed v (roomFor (spliceBytes o C A P B mode head) room)) (late-by ∙ also-passed _ _ (finding-clear LATE_STEP COMPILED f t)))
+
+  -- ---- 11 to 13
+
+  module _ (r : LinedUp) (w : LinesUp o C A P B r) where
+    pub answer-unlined : (n x p : ℕ) → r ≡ Unlined n x p → refused n x p ≡ stagesAnswer o C A P B mode head room
+    unfolding stagesAnswer stagesVerdict linedVerdict
+    answer-unlined n x p e = sym (if-refused _ _ n x p (also-refused _ _ n x p (sym (w .verdict) ∙ ap linedVerdict e)))
+
+    pub lined-passed : (s : LateStep) → r ≡ Lined s → lineUpVerdict o C A P B ≡ Passed
+    unfolding linedVerdict
+    lined-passed s e = sym (w .verdict) ∙ ap linedVerdict e
+
+    pub answer-lined : (s : LateStep) → r ≡ Lined s → lateAnswer o C A P B mode head room ≡ stagesAnswer o C A P B mode head room
+    unfolding stagesAnswer stagesVerdict lateAnswer
+    answer-lined s e = sym (ap (λ (v : Verdict). ifPassed v (roomFor (spliceBytes o C A P B mode head) room)) (also-passed _ _ (lined-passed s e)))
+
+-- what is in hand behind 13
+pub stage-read : (C A B : List ℕ) (i : Inputs) (table places : List ℕ) → InputsRead C A B i table places → (r : LinedUp)
+    → LinesUp (i .order) C A (placesIn places (lineCount B)) B r → (s : LateStep) → r ≡ Lined s → StageRead C A B (record { inputs = i; step = s }) table places
+stage-read C A B i table places w r u s e = record {
+  read = w;
+  agrees = agrees-of (i .order) C A (placesIn places (lineCount B)) B (lined-passed (i .order) C A (placesIn places (lineCount B)) B 0 0 0 r u s e);
+  step = u .step s e;
+}
+
+-- ---- the whole call
+
+module _ (C A B path : List ℕ) (mode room table places steps index : ℕ) where
+  abbrev broken : Bool
+  broken = overLimits (spliceBounds (length C) (length A) (length B) mode table places steps index) || not (isPath path)
+
+  pub verdict-over : broken ≡ true → refused LIMITS NONE 0 ≡ spliceVerdict C A B path mode room table places steps index
+  unfolding spliceVerdict
+  verdict-over t = sym (if-refused _ _ LIMITS NONE 0 (also-refused _ _ LIMITS NONE 0 (limit-broken _ t)))
+
+  module _ (kept : broken ≡ false) (r : Opened) (is : openedVerdict r ≡ inputsVerdict C A B) where
+    pub verdict-refused : (n o p : ℕ) → r ≡ Shut n o p → refused n o p ≡ spliceVerdict C A B path mode room table places steps index
+    unfolding spliceVerdict openedVerdict
+    verdict-refused n o p e = sym (if-refused _ _ n o p (also-passed _ _ (limit-kept _ kept) ∙ sym is ∙ ap openedVerdict e))
+
+    pub verdict-stages : (n : ℕ) → r ≡ Blocks n → (i : Inputs) → i ≡ inputsOf C A n → (P : List Place) → P ≡ placesOf (i .order) C B → (head : ℕ) → head ≡ length (nameHead mode path)
+        → stagesAnswer (i .order) C A P B mode head room ≡ spliceVerdict C A B path mode room table places steps index
+    unfolding spliceVerdict openedVerdict inputsOf
+    verdict-stages n e i q P at head h =
+        let o : i .order ≡ orderOf C = ap (λ (x : Inputs). x .order) q in
+        ap (λ (x : List Place). stagesAnswer (i .order) C A x B mode head room) (at ∙ ap (λ (x : ByteOrder). placesOf x C B) o)
+        ∙ ap (λ (x : ByteOrder). stagesAnswer x C A (placesOf (orderOf C) C B) B mode head room) o
+        ∙ ap (λ (x : ℕ). stagesAnswer (orderOf C) C A (placesOf (orderOf C) C B) B mode x room) h
+        ∙ sym (if-passed _ _ (also-passed _ _ (limit-kept _ kept) ∙ sym is ∙ ap openedVerdict e))
+
+  -- ---- what an accepted answer says
+
+  module _ (O : List ℕ) (e : spliceVerdict C A B path mode room table places steps index ≡ accepted O) where
+    abbrev P : List Place
+    P = placesOf (orderOf C) C B
+
+    abbrev head : ℕ
+    head = length (nameHead mode path)
+
+    tests : (broken ≡ false) × (inputsVerdict C A B ≡ Passed) × (stagesVerdict (orderOf C) C A P B mode head ≡ Passed) × (O ≡ spliceBytes (orderOf C) C A P B mode head)
+    unfolding spliceVerdict stagesAnswer
+    tests =
+        let a = if-accepted _ _ O e in
+        let b = also-parts _ _ (a .0) in
+        let c = if-accepted _ _ O (a .1) in
+        let d = room-accepted _ O room (c .1) in
+        (limit-passed _ (b .0), b .1, c .0, d .0)
+
+    stages : (lineUpVerdict (orderOf C) C A P B ≡ Passed) × (lateFinding (orderOf C) C A P B ≡ Clear) × (symbolStagesVerdict (orderOf C) C A P B mode head ≡ Passed)
+    unfolding stagesVerdict lateVerdict
+    stages =
+        let a = also-parts _ _ (tests .2) in
+        let b = also-parts _ _ (a .1) in
+        (a .0, finding-passed LATE_STEP COMPILED _ (b .0), b .1)
+
+    no-fault : hasLateStep P B ≡ true
+        → lateStepFault (orderOf C) P B (copied (spansOf P B LATE_TARGET) (codedContents (orderOf C) C LATE_TARGET) (codedContents (orderOf C) A LATE_TARGET)) ≡ blockCount B
+    unfolding lateFinding stepFinding
+    no-fault t =
+        let f = rw t at (stages .1) in
+        omega (arith, found-clear (blockCount B) _ f, fault-high (orderOf C) P B (copied (spansOf P B LATE_TARGET) (codedContents (orderOf C) C LATE_TARGET) (codedContents (orderOf C) A LATE_TARGET)))
+
+    pub splice-accepted : StagesPassed C A B path mode × (O ≡ spliceBytes (orderOf C) C A P B mode head)
+    splice-accepted =
+        let l = splice-limits (length C) (length A) (length B) mode table places steps index path (tests .0) in (
+          record {
+            compiledLimit = l .compiled-limit;
+            assembledLimit = l .assembled-limit;
+            blocksLimit = l .blocks-limit;
+            modeLimit = l .mode-limit;
+            path-is = l .path-is;
+            inputs = inputs-passed C A B (tests .1);
+            agrees = agrees-of (orderOf C) C A P B (stages .0);
+            moved = no-fault;
+            symbols = stages .2;
+          },
+          tests .3,
+        )

@@ -1,0 +1,4 @@
+pub mod Limits
+pub mod Sections
+pub mod Result
+pub mod Accepted
