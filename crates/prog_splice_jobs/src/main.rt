@@ -41,10 +41,10 @@ fn print_accepted(out: &[u8], length: u64) {
     io::write_all(STDOUT_FILENO, b"\n");
 }
 
-fn splice_parts(
+fn splice_parts<'a>(
     head: &[u8],
-    compiled: &[u8],
-    assembled: &[u8],
+    compiled: &'a [u8],
+    assembled: &'a [u8],
     blocks: &[u8],
     path: &[u8],
     out: &mut [u8],
