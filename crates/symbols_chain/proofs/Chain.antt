@@ -20,10 +20,6 @@ use Rattle.symbols_fill.proofs.Filled.{ids-few}
 use Rattle.symbols_chain.specs.Chain.{SymbolsListed}
 
 module _ (C A U late : List ℕ) (f : Filling) (q : PlacesReady C A U late f) (before : List ℕ) (n : ℕ) (T : List ℕ) (r : FilledRows C A U late f before n T) where
-  -- what listing asks
-  pub rows-few : n ≤ ID_LIMIT
-  rows-few = omega (arith, r .many, ids-few C A U late f q)
-
   module _ (long : ID_ROW * idCount (f .sources) ≤ length before) where
     rows-named : RowsOf T (idCount (f .sources)) (idName (f .inputs .order) C A U (f .sources))
     unfolding rowOf

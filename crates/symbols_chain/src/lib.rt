@@ -1,14 +1,11 @@
-// The pieces of the symbol merge one behind the other: rows and list of its ids, the holders of the list's positions, and the order and numbers of the result. What each
-// leaves: specs/Chain.antt; what that is of the candidates of the merge (crate symbols_ids): proofs/Result.antt. Document 01, "Symbols".
+// The holders of the list's positions, found through its index. What the pieces of the symbol merge leave one behind the other is in specs/Chain.antt, and what that is of the
+// candidates of the merge (crate symbols_ids) in proofs/Result.antt. Document 01, "Symbols".
 ghost use Prim.Native.Nat.{_*_, _≤_};
 ghost use lib.ListN.{length};
-ghost use Rattle.base_scope.specs.Limits.{ID_LIMIT, ID_ROW};
+ghost use Rattle.base_scope.specs.Limits.{ID_LIMIT};
 ghost use Rattle.base_index.specs.Index.{Room};
 ghost use Rattle.symbols_rows.specs.Rows.{HoldersOf};
-ghost use Rattle.symbols_holders.specs.Ready.{idCount, symbolsIn, HoldersReady};
-ghost use Rattle.symbols_numbers.specs.Numbers.{Tables, HoldersFirst, IdRoom};
-ghost use Rattle.symbols_fill.specs.Fill.{FillReady};
-ghost use Rattle.symbols_chain.specs.Chain.{SymbolsListed, SymbolsNumbered};
+ghost use Rattle.symbols_holders.specs.Ready.{symbolsIn, HoldersReady};
 use base_fields::ByteOrder;
 use symbols_fill::Filling;
 use symbols_names::Sources;
@@ -18,25 +15,6 @@ pub struct Numbering {
     pub filling: Filling,
     pub locals: usize,
     pub count: usize,
-}
-
-// Leaves the rows of all ids and the list of those that are taken, and answers how many positions it has. Neither table needs particular contents.
-pub fn list_symbols<'a>(
-    compiled: &'a [u8],
-    assembled: &'a [u8],
-    statics: &[u8],
-    used: &[u8],
-    late: &[u8],
-    filling: Filling,
-    rows: &mut [u8],
-    list: &mut [u8],
-) -> usize
-    requires { ⌜ FillReady (now compiled) (now assembled) (now statics) (now used) (now late) filling × (ID_ROW * idCount (filling .sources) ≤ length (now rows))
-        × (4 * idCount (filling .sources) ≤ length (now list)) ⌝ }
-    ensures { λ r. ⌜ SymbolsListed (now (compiled .entry)) (now (assembled .entry)) (now (statics .entry)) (now (late .entry)) filling (now (rows .exit)) (now (list .exit)) r ⌝ }
-{
-    let n = symbols_fill::fill_rows(compiled, assembled, statics, used, late, filling, rows);
-    symbols_rows::list_ids(rows, n, list)
 }
 
 // Indexes the m positions of the list, and leaves their holders. Neither `index` nor `holders` needs particular contents.
@@ -68,22 +46,4 @@ pub fn hold_symbols<'a>(
         m,
         holders,
     );
-}
-
-// Leaves the order of the result and the number of each id, and answers where the groups of the result start.
-pub fn number_symbols(
-    rows: &[u8],
-    list: &[u8],
-    holders: &[u8],
-    m: usize,
-    order: &mut [u8],
-    numbers: &mut [u8],
-) -> [usize; symbols_numbers::STARTS]
-    requires { ⌜ Tables (now rows) (now list) (now holders) m × HoldersFirst (now list) (now holders) m × IdRoom (now list) m (now numbers) × (4 * m ≤ length (now order)) ⌝ }
-    ensures { λ r. ⌜ SymbolsNumbered (now (rows .entry)) (now (list .entry)) (now (holders .entry)) m r (now (order .exit)) (now (numbers .exit)) ⌝ }
-{
-    let starts = symbols_numbers::group_starts(rows, list, holders, m);
-    symbols_numbers::order_positions(rows, list, holders, m, starts, order);
-    symbols_numbers::number_ids(rows, list, holders, m, starts, numbers);
-    starts
 }

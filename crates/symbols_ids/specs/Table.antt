@@ -12,13 +12,13 @@ use Rattle.statics_table.specs.declared.Static.{Static}
 use Rattle.symbols_merge.specs.Merged.{mergedCount, mergedAt}
 use Rattle.symbols_ids.specs.Ids.{entryOf, candidates}
 
-unfoldable pub zeroEntry : SymbolEntry
-zeroEntry = record { «st_name» = 0; «st_value» = 0; «st_size» = 0; «st_info» = 0; «st_other» = 0; «st_shndx» = 0 }
+unfoldable pub nullEntry : SymbolEntry
+nullEntry = record { «st_name» = 0; «st_value» = 0; «st_size» = 0; «st_info» = 0; «st_other» = 0; «st_shndx» = 0 }
 
 module _ (o : ByteOrder) (C A : List ℕ) (P : List Place) (B : List ℕ) (mode : ℕ) (S : List Static) where
   -- entry k: from 1 on that of the candidate whose symbol it is
   unfoldable pub resultEntry : ℕ → SymbolEntry
-  resultEntry zero = zeroEntry
+  resultEntry zero = nullEntry
   resultEntry (suc k) = entryOf o C A P B mode S (mergedAt (candidates o C A P B mode S) (suc k))
 
   unfoldable pub resultSymbols : List ℕ

@@ -73,3 +73,8 @@ local-u = record {
 pub undefined-local : symbolsVerdict local-u ≡ Refused LOOSE_SYMBOL NONE 1
 unfolding symbolsVerdict also findingVerdict foundBelow isLoose isElsewhere holderOf isLocal holder isAlike isUnnamed listedAt listed listGroup isDefined grouped ofGroup inGroup gather select firstFrom same text
 undefined-local = refl
+
+-- the first g holds the second
+pub held-by-first : heldBy (five 8) 4 ≡ 0
+unfolding heldBy position groupedPlace count holderOf isMerged groupAtPosition resultGroup isLocal isGpDisp isHolder holder isAlike isUnnamed listedAt listed listGroup isDefined grouped ofGroup inGroup gather select firstFrom same text
+held-by-first = refl

@@ -18,7 +18,7 @@ use Rattle.elf_records.proofs.RoundTrip.{length-symbol}
 use Rattle.statics_table.specs.Table.{staticsIn}
 use Rattle.symbols_ids.specs.Entries.{finished}
 use Rattle.symbols_ids.specs.Ids.{nameOf}
-use Rattle.symbols_ids.specs.Table.{zeroEntry}
+use Rattle.symbols_ids.specs.Table.{nullEntry}
 use Rattle.symbols_rows.specs.declared.IdRow.{IdRow}
 use Rattle.symbols_rows.specs.Rows.{idRow, wordIn}
 use Rattle.symbols_entries.specs.Ids.{originIn, EntriesReady}
@@ -35,12 +35,12 @@ module _ (C A T M R L O : List ℕ) (n : Numbering) where
   abbrev o : ByteOrder
   o = n .filling .inputs .order
 
-  zero-low : (r : SymbolEntry) → r ≡ zeroEntry → r .«st_shndx» < 65536
-  unfolding zeroEntry
+  zero-low : (r : SymbolEntry) → r ≡ nullEntry → r .«st_shndx» < 65536
+  unfolding nullEntry
   zero-low r e = rw e (omega arith)
 
   -- entry 0
-  pub entry-null : (k : ℕ) (r : SymbolEntry) → k ≡ 0 → r ≡ zeroEntry → (r ≡ entryIn C A T M R L O n k) × (r .«st_shndx» < 65536)
+  pub entry-null : (k : ℕ) (r : SymbolEntry) → k ≡ 0 → r ≡ nullEntry → (r ≡ entryIn C A T M R L O n k) × (r .«st_shndx» < 65536)
   unfolding entryIn
   entry-null k r z e = (rw z e, zero-low r e)
 

@@ -11,7 +11,7 @@ use Rattle.elf_records.specs.Symbol.{symbolBytes}
 use Rattle.statics_table.specs.Table.{staticsIn}
 use Rattle.symbols_ids.specs.Entries.{finished}
 use Rattle.symbols_ids.specs.Ids.{nameOf}
-use Rattle.symbols_ids.specs.Table.{zeroEntry}
+use Rattle.symbols_ids.specs.Table.{nullEntry}
 use Rattle.symbols_rows.specs.Rows.{idSection, idValue, wordIn}
 use Rattle.symbols_entries.specs.Ids.{originIn, EntriesReady}
 use Rattle.symbols_holders.specs.Ready.{idCount}
@@ -31,7 +31,7 @@ rowEntry C A T M R f i =
 module _ (C A T M R L O : List ℕ) (n : Numbering) where
   -- entry k
   unfoldable pub entryIn : ℕ → SymbolEntry
-  entryIn zero = zeroEntry
+  entryIn zero = nullEntry
   entryIn (suc k) = rowEntry C A T M R (n .filling) (idAt L O k)
 
   unfoldable pub symbolsTableIn : List ℕ

@@ -5,14 +5,14 @@ ghost use mathlib.Core.Path.{_≡_};
 ghost use Prim.Native.Nat.{_+_, _*_, _≤_, _<_};
 ghost use lib.ListN.{length};
 ghost use Rattle.base_lists.specs.Windows.{spliced};
-ghost use Rattle.symbols_ids.specs.Table.{zeroEntry};
+ghost use Rattle.symbols_ids.specs.Table.{nullEntry};
 ghost use Rattle.symbols_table.specs.Table.{idAt, entryIn, symbolsTableIn, InOrder, SymbolsReady};
 use elf_records::SymbolEntry;
 use symbols_chain::Numbering;
 
 // Entry 0: zeros.
 fn null_entry() -> SymbolEntry
-    ensures { λ r. ⌜ r ≡ zeroEntry ⌝ }
+    ensures { λ r. ⌜ r ≡ nullEntry ⌝ }
 {
     SymbolEntry {
         st_name: 0,
