@@ -25,6 +25,7 @@ use Rattle.symbols_merge.specs.Candidates.{Candidates}
 use Rattle.symbols_merge.specs.Listed.{symbolsVerdict}
 use Rattle.symbols_merge.specs.Merged.{mergedCount, localCount, mergedAt}
 use Rattle.symbols_ids.specs.Ids.{mergeCandidates}
+use Rattle.write_image.specs.Layout.{alignedTo}
 use Rattle.known_pairs.specs.Jobs.{alignFour, alignEight, searched, padded, twoDummies, oneDummy, unplaced, lateWords, symbolicHeader, twiceInProc, onceInFile, oneSymbol, fourSymbols, fooAt}
 
 -- the working names of an object's statics in mode 1
@@ -43,6 +44,10 @@ pub record KnownPairs : Type 0 where
   pub info-symbol : symbolOf 0x00000304 ≡ 3
   pub info-kind : kindOf 0x00000304 ≡ 4
   pub info-joined : relocationInfo 12286 255 ≡ 0x002FFEFF
+  -- end 52, alignment 16: next 64. Alignment 0 or 1: 52
+  pub end-sixteen : alignedTo 52 16 ≡ 64
+  pub end-none : alignedTo 52 0 ≡ 52
+  pub end-one : alignedTo 52 1 ≡ 52
   -- debug section from 200 to 1F0: offset 260 becomes 250, all hex; with count 0 it stays
   pub offset-moves : movedDebug Big (symbolicHeader 1 0x260) 0x200 0x1F0 ≡ symbolicHeader 1 0x250
   pub offset-stays : movedDebug Big (symbolicHeader 0 0x260) 0x200 0x1F0 ≡ symbolicHeader 0 0x260
