@@ -1,7 +1,7 @@
 -- The tables of A that join one of C, as the code tests them. Assumes nothing.
 use Prim.Native.Nat.{ℕ, _+_, _≤_, _<_, min}
-use mathlib.Core.Path.{_≡_, refl, sym, ap, _∙_}
-use mathlib.Core.Bool.{Bool, true, false, cond, not, _&&_, _||_}
+use mathlib.Core.Path.{_≡_, sym, ap, _∙_}
+use mathlib.Core.Bool.{Bool, true, false, not}
 use mathlib.Core.List.{List}
 use native.Mathlib.Nat.{min-eq-left, min-eq-right}
 use native.Mathlib.Omega.{arith}
@@ -9,14 +9,13 @@ use lib.ListN.{length}
 use lib.Dec.{eqb, ltb}
 use borrow.Author.Tests.{lt-ltb, le-ltb, ltb-true, eq-eqb, ne-eqb, eqb-false}
 use Rattle.base_lists.specs.Ranges.{first, least}
-use Rattle.base_lists.proofs.Ranges.{by-test, and-parts, least-zero, least-next, least-high}
+use Rattle.base_lists.proofs.Ranges.{by-test, and-parts, least-next, least-high}
 use Rattle.base_fields.specs.declared.ByteOrder.{ByteOrder}
-use Rattle.base_scope.specs.Text.{text}
-use Rattle.base_scope.specs.Codes.{TEXT, DATA, RODATA, BSS, LATE-RODATA, LINES, CODES, sectionCodes, codeName, targetCode}
+use Rattle.base_scope.specs.Codes.{LATE-RODATA, LINES, CODES, targetCode}
 use Rattle.base_scope.specs.declared.Finding.{Finding}
 use Rattle.base_scope.specs.Refusals.{foundBelow}
 use Rattle.elf_records.specs.declared.section.SectionHeader.{SectionHeader}
-use Rattle.elf_readers.specs.Readers.{sectionCount, section, sectionNamed, codedSection, codedContents}
+use Rattle.elf_readers.specs.Readers.{sectionCount, section, sectionNamed, codedContents}
 use Rattle.elf_relocations.specs.Relocations.{isRela, isTable}
 use Rattle.elf_check.specs.declared.View.{View}
 use Rattle.elf_check.specs.View.{viewOf, sectionIn}

@@ -1,5 +1,5 @@
--- Refusal 10 (document 01, "Carrying", and its table; RULINGS 31 to 34 for what it leaves open): the lowest section of C at fault. C is the compiled object, A the assembled one;
--- `flag` says whether trailing sections are dropped.
+-- Refusal 10 (document 01, "Carrying", and its table): the lowest section of C at fault. C is the compiled object, A the assembled one; `flag` says whether trailing sections are
+-- dropped.
 use Prim.Native.Nat.{ℕ, min}
 use mathlib.Core.Bool.{Bool, cond, not, _&&_, _||_}
 use mathlib.Core.List.{List, _++_}

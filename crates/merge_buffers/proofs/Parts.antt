@@ -39,13 +39,20 @@ kept-then at a b c x y = record { front = y .front ∙ x .front; long = y .long 
 
 -- ---- a part that was lent
 
+abbrev pub lent : ℕ → ℕ → List ℕ → List ℕ
+lent from to l = take (to - from) (drop from l)
+
+-- and came back as `part`
+abbrev pub putBack : ℕ → ℕ → List ℕ → List ℕ → List ℕ
+putBack from to l part = take from l ++ (part ++ drop (to - from) (drop from l))
+
 -- a table of a buffer is as long as it is said to be
 pub part-long : (at size : ℕ) (l : List ℕ) → at + size ≤ length l → length (partAt at size l) ≡ size
 unfolding partAt
 part-long at size l h = length-part l at size h
 
 -- the part from `from` to `to` is the table there
-pub part-lent : (at size from to : ℕ) (l : List ℕ) → from ≡ at → to ≡ at + size → take (to - from) (drop from l) ≡ partAt at size l
+pub part-lent : (at size from to : ℕ) (l : List ℕ) → from ≡ at → to ≡ at + size → lent from to l ≡ partAt at size l
 unfolding partAt
 part-lent at size from to l f t =
     let e : to - from ≡ size = omega (arith, f, t) in

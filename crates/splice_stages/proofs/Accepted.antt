@@ -1,5 +1,5 @@
 -- The verdict of the stages in each way through them, and what an accepted answer says of its inputs. Assumes nothing.
-use mathlib.Core.Path.{_≡_, refl, sym, ap, _∙_}
+use mathlib.Core.Path.{_≡_, sym, ap, _∙_}
 use mathlib.Core.Bool.{Bool, true, false, not, _||_}
 use mathlib.Core.List.{List}
 use Prim.Native.Nat.{ℕ, _≤_}
@@ -12,11 +12,11 @@ use Rattle.base_scope.specs.Codes.{LATE_TARGET}
 use Rattle.base_scope.specs.Limits.{overLimits}
 use Rattle.base_scope.specs.declared.Finding.{Finding}
 use Rattle.base_scope.specs.declared.Finding.the-variants.{Clear, At}
-use Rattle.base_scope.specs.Refusals.{LIMITS, LATE_STEP, foundBelow}
+use Rattle.base_scope.specs.Refusals.{LIMITS, LATE_STEP}
 use Rattle.base_scope.proofs.Refusals.{found-clear}
 use Rattle.base_answers.specs.declared.Verdict.{Verdict}
-use Rattle.base_answers.specs.declared.Verdict.the-variants.{Passed, Refused}
-use Rattle.base_answers.specs.Answers.{Answer, accepted, refused, NONE, COMPILED, roomFor}
+use Rattle.base_answers.specs.declared.Verdict.the-variants.{Passed}
+use Rattle.base_answers.specs.Answers.{accepted, refused, NONE, COMPILED, roomFor}
 use Rattle.base_answers.specs.Verdicts.{also, ifPassed, findingVerdict}
 use Rattle.base_answers.proofs.Verdicts.{also-passed, also-refused, also-parts, if-passed, if-refused, if-accepted, room-accepted, limit-kept, limit-broken, limit-passed, finding-clear, finding-at, finding-passed}
 use Rattle.elf_readers.specs.Readers.{orderOf, codedContents}
@@ -34,16 +34,14 @@ use Rattle.open_inputs.specs.declared.Opened.the-variants.{Blocks, Refused as S
 use Rattle.open_inputs.specs.Opened.{openedVerdict}
 use Rattle.statics_table.specs.Statics.{nameHead}
 use Rattle.merge_inputs.specs.declared.Inputs.{Inputs}
-use Rattle.merge_inputs.specs.Verdict.{inputsVerdict, InputsPassed}
+use Rattle.merge_inputs.specs.Verdict.{inputsVerdict}
 use Rattle.merge_inputs.specs.Taken.{inputsOf, InputsRead}
 use Rattle.merge_inputs.proofs.Reading.{inputs-passed}
 use Rattle.merge_line_up.specs.declared.LinedUp.{LinedUp}
 use Rattle.merge_line_up.specs.declared.LinedUp.the-variants.{Lined, Refused as Unlined}
 use Rattle.merge_line_up.specs.LineUp.{lineUpVerdict}
 use Rattle.merge_line_up.specs.Answer.{linedVerdict, LinesUp}
-use Rattle.merge_line_up.specs.Agrees.{Agrees}
 use Rattle.merge_line_up.proofs.Agrees.{agrees-of}
-use Rattle.merge_sections.specs.declared.Stage.{Stage}
 use Rattle.merge_sections.specs.Sections.{stepFinding, lateFinding}
 use Rattle.merge_sections.specs.Stages.{StageRead}
 use Rattle.symbols_stage.specs.Verdict.{symbolStagesVerdict}

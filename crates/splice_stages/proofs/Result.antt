@@ -3,7 +3,7 @@ use Prim.Native.Nat.{ℕ, _+_, _*_, _-_, _≤_, _<_}
 use mathlib.Core.Path.{_≡_, refl, sym, ap, _∙_}
 use mathlib.Core.List.{List, _++_, append-assoc}
 use native.Mathlib.Omega.{arith}
-use lib.ListN.{length, take, drop, length-append}
+use lib.ListN.{length, length-append}
 use Rattle.base_lists.specs.Windows.{spliced}
 use Rattle.base_lists.specs.Written.{Written}
 use Rattle.base_lists.proofs.Ranges.{gather-all-length}
@@ -21,7 +21,7 @@ use Rattle.blocks_places.specs.Table.{placesIn}
 use Rattle.open_inputs.specs.declared.Opened.{Opened}
 use Rattle.statics_walk.specs.Walk.{statics}
 use Rattle.merge_buffers.specs.Buffers.{ROWS_AT, HOLDERS_AT, USED_AT, SPANS_AT, INDEX_BUFFER, BLOCK_BUFFER, PLACE_BUFFER, STEP_BUFFER, blocksPart, idsPart, placesPart, lateStepPart, staticsPart, glabelsPart, listPart, orderPart, BuffersHeld, KeptBefore}
-use Rattle.merge_buffers.proofs.Parts.{part-long, part-lent, put-table, put-kept, kept-part}
+use Rattle.merge_buffers.proofs.Parts.{lent, putBack, part-long, part-lent, put-table, put-kept, kept-part}
 use Rattle.merge_inputs.specs.Taken.{Took}
 use Rattle.merge_sections.specs.declared.Stage.{Stage}
 use Rattle.merge_sections.specs.Stages.{StageRead, Movable, Searched}
@@ -42,14 +42,8 @@ use Rattle.symbols_stage.specs.declared.SymbolsEnd.{SymbolsEnd}
 use Rattle.symbols_stage.specs.declared.SymbolsEnd.the-variants.{Numbered}
 use Rattle.symbols_stage.specs.End.{fillingOf, numberingBy, SymbolsHeld, StageEnd}
 use Rattle.splice_stages.specs.Verdict.{sectionPieces, spliceBytes}
-use Rattle.splice_stages.specs.Call.{spliceLength, stageIn, tableIn, resultIn, TableReady, ResultReady}
+use Rattle.splice_stages.specs.Call.{spliceLength, stageIn, tableIn, resultIn, ResultReady}
 use Rattle.splice_stages.proofs.Sections.{splice-long}
-
-abbrev putBack : ℕ → ℕ → List ℕ → List ℕ → List ℕ
-putBack from to l part = take from l ++ (part ++ drop (to - from) (drop from l))
-
-abbrev lent : ℕ → ℕ → List ℕ → List ℕ
-lent from to l = take (to - from) (drop from l)
 
 -- ---- the rows of spans stand behind the numbers
 

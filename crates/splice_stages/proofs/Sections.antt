@@ -1,16 +1,15 @@
 -- The four sections one behind the other, and what the call leaves. Assumes nothing.
-use mathlib.Core.Path.{_≡_, refl, sym, ap, _∙_}
+use mathlib.Core.Path.{_≡_, refl, ap, _∙_}
 use mathlib.Core.Bool.{true, false}
 use mathlib.Core.List.{List, _++_, append-assoc}
-use Prim.Native.Nat.{ℕ, _+_, _≤_, _<_}
+use Prim.Native.Nat.{ℕ, _+_, _≤_}
 use native.Mathlib.Omega.{arith}
 use lib.ListN.{length, length-append}
 use Rattle.base_lists.specs.Windows.{spliced}
-use Rattle.base_lists.specs.Written.{Written}
-use Rattle.base_lists.proofs.Windows.{length-spliced, spliced-then}
+use Rattle.base_lists.proofs.Windows.{spliced-then}
 use Rattle.base_buffers.specs.Buffers.{zeros, zeroedFrom}
 use Rattle.base_fields.specs.declared.ByteOrder.{ByteOrder}
-use Rattle.base_scope.specs.Codes.{TEXT, DATA, LATE_TARGET, REGINFO, holdsBytes, isLateTarget, sectionCodes}
+use Rattle.base_scope.specs.Codes.{TEXT, DATA, LATE_TARGET, holdsBytes, isLateTarget, sectionCodes}
 use Rattle.base_answers.specs.declared.Outcome.{Outcome}
 use Rattle.base_answers.specs.Answers.{Answer}
 use Rattle.base_answers.specs.Answered.{Answered}

@@ -1,22 +1,19 @@
 -- What the symbol merge answers, step by step: which test decides, and what stands in the buffers where none refuses. Assumes nothing.
-use Prim.Native.Nat.{ℕ, _+_, _*_, _≤_, _<_}
+use Prim.Native.Nat.{ℕ, _+_, _≤_, _<_}
 use mathlib.Core.Path.{_≡_, refl, sym, ap, _∙_}
-use mathlib.Core.Bool.{true}
 use mathlib.Core.List.{List}
 use native.Mathlib.Omega.{arith}
 use lib.ListN.{length, getD}
 use Rattle.base_lists.specs.Windows.{Within}
 use Rattle.base_lists.proofs.Ranges.{select-all-at}
 use Rattle.base_fields.specs.declared.ByteOrder.{ByteOrder}
-use Rattle.base_scope.specs.Limits.{HEAD_LIMIT, ID_LIMIT, SYMBOL_LIMIT, STATIC_TABLE, USED_TABLE, LATE_TABLE, GLABEL_TABLE, POSITION_TABLE, PLACE_TABLE, BLOCK_TABLE}
+use Rattle.base_scope.specs.Limits.{HEAD_LIMIT, ID_LIMIT, STATIC_TABLE, USED_TABLE, LATE_TABLE, GLABEL_TABLE, POSITION_TABLE, PLACE_TABLE}
 use Rattle.base_scope.specs.Codes.{LATE_TARGET}
 use Rattle.base_scope.specs.Refusals.{STATICS}
-use Rattle.base_scope.specs.declared.Finding.{Finding}
 use Rattle.base_scope.specs.declared.Finding.the-variants.{Clear, At}
 use Rattle.base_answers.specs.declared.Verdict.{Verdict}
 use Rattle.base_answers.specs.declared.Verdict.the-variants.{Passed, Refused}
 use Rattle.base_answers.specs.Answers.{COMPILED}
-use Rattle.base_answers.specs.Verdicts.{also, findingVerdict}
 use Rattle.base_answers.proofs.Verdicts.{also-passed, also-refused, finding-clear, finding-at}
 use Rattle.elf_readers.specs.Readers.{codedContents}
 use Rattle.elf_symbols.specs.Symbols.{Table}
@@ -31,10 +28,9 @@ use Rattle.merge_buffers.proofs.Parts.{kept-part, kept-same, kept-less, kept-th
 use Rattle.merge_sections.specs.declared.Stage.{Stage}
 use Rattle.merge_sections.specs.Stages.{StageRead, Movable}
 use Rattle.merge_sections.proofs.Sections.{step-runs, step-start}
-use Rattle.statics_table.specs.declared.Tally.{Tally}
 use Rattle.statics_table.specs.Table.{staticsIn, StaticTable}
 use Rattle.statics_walk.specs.declared.Listing.{Listing}
-use Rattle.statics_walk.specs.Walk.{staticsFault, statics}
+use Rattle.statics_walk.specs.Walk.{statics}
 use Rattle.statics_walk.specs.Sound.{StaticsSound}
 use Rattle.statics_walk.proofs.Sound.{statics-sound}
 use Rattle.symbols_merge.specs.Candidates.{Candidates}
@@ -42,7 +38,7 @@ use Rattle.symbols_merge.specs.Listed.{symbolsVerdict}
 use Rattle.symbols_merge.specs.Merged.{RESULT-GROUPS, LOCAL-GROUPS, mergedCount, localCount}
 use Rattle.symbols_taken.specs.Taken.{takenVerdict}
 use Rattle.symbols_taken.specs.Passed.{TakenPassed}
-use Rattle.symbols_taken.specs.Code.{usedBytes, LateIn, StepIn, takenIn}
+use Rattle.symbols_taken.specs.Code.{usedBytes, LateIn, StepIn}
 use Rattle.symbols_taken.proofs.InHand.{step-late, taken-is}
 use Rattle.symbols_taken.proofs.Passed.{taken-passed}
 use Rattle.symbols_ids.specs.Ids.{candidates}
@@ -50,14 +46,14 @@ use Rattle.symbols_rows.specs.Rows.{HoldersOf}
 use Rattle.symbols_rows.specs.Steps.{verdictIn}
 use Rattle.symbols_holders.specs.Ready.{idCount, symbolsIn, HoldersReady}
 use Rattle.symbols_numbers.specs.Numbers.{Tables, HoldersFirst, orderIn, groupStarts}
-use Rattle.symbols_numbers.specs.Result.{StartsOf, NumbersOf}
+use Rattle.symbols_numbers.specs.Result.{StartsOf}
 use Rattle.symbols_numbers.proofs.Counts.{start-few}
 use Rattle.symbols_fill.specs.declared.Filling.{Filling}
 use Rattle.symbols_fill.specs.Fill.{FillReady}
 use Rattle.symbols_fill.specs.Stage.{FillStage}
 use Rattle.symbols_fill.proofs.Candidates.{fill-ready}
 use Rattle.symbols_fill.proofs.Filled.{ids-few}
-use Rattle.symbols_chain.specs.Chain.{SymbolsListed, SymbolsNumbered}
+use Rattle.symbols_chain.specs.Chain.{SymbolsNumbered}
 use Rattle.symbols_chain.proofs.Stage.{fill-stage-of}
 use Rattle.symbols_chain.proofs.Result.{chain-tables, chain-first, chain-room, chain-verdict, chain-starts, chain-order, chain-numbers}
 use Rattle.symbols_table.specs.Stage.{TableStage}

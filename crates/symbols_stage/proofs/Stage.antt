@@ -1,9 +1,9 @@
 -- What each step asks and leaves, table by table. Assumes nothing.
-use Prim.Native.Nat.{ℕ, _+_, _-_, _*_, _≤_, _<_}
-use mathlib.Core.Path.{_≡_, refl, sym, ap, _∙_}
-use mathlib.Core.List.{List, _++_}
+use Prim.Native.Nat.{ℕ, _-_, _*_, _≤_}
+use mathlib.Core.Path.{_≡_, refl, ap, _∙_}
+use mathlib.Core.List.{List}
 use native.Mathlib.Omega.{arith}
-use lib.ListN.{length, take, drop}
+use lib.ListN.{length}
 use Rattle.base_lists.specs.Windows.{Within, spliced}
 use Rattle.base_fields.specs.declared.ByteOrder.{ByteOrder}
 use Rattle.base_index.specs.Index.{Room}
@@ -13,10 +13,9 @@ use Rattle.elf_symbols.specs.Symbols.{symbolCount, symbolName, Table}
 use Rattle.elf_check.specs.View.{Viewed}
 use Rattle.blocks_file.specs.Blocks.{blockCount}
 use Rattle.blocks_places.specs.Lines.{lineCount}
-use Rattle.blocks_places.specs.Places.{Place}
 use Rattle.blocks_places.specs.Table.{placesIn, Laid}
-use Rattle.merge_buffers.specs.Buffers.{ROWS_AT, BLOCK_BUFFER, HOLDERS_AT, PLACE_BUFFER, USED_AT, STATIC_AT, GLABELS_AT, LIST_AT, STEP_BUFFER, NUMBERS_AT, SPANS_AT, INDEX_BUFFER, partAt, blocksPart, idsPart, placesPart, holdersPart, lateStepPart, usedPart, staticsPart, glabelsPart, listPart, orderPart, numbersPart, BuffersHeld, KeptBefore}
-use Rattle.merge_buffers.proofs.Parts.{kept-part, part-long, part-lent, put-table, put-kept}
+use Rattle.merge_buffers.specs.Buffers.{ROWS_AT, BLOCK_BUFFER, HOLDERS_AT, PLACE_BUFFER, USED_AT, STATIC_AT, GLABELS_AT, LIST_AT, STEP_BUFFER, NUMBERS_AT, SPANS_AT, INDEX_BUFFER, blocksPart, idsPart, placesPart, lateStepPart, usedPart, staticsPart, listPart, orderPart, numbersPart, BuffersHeld, KeptBefore}
+use Rattle.merge_buffers.proofs.Parts.{lent, putBack, kept-part, part-long, part-lent, put-table, put-kept}
 use Rattle.merge_inputs.specs.declared.Inputs.{Inputs}
 use Rattle.merge_sections.specs.declared.Stage.{Stage}
 use Rattle.statics_walk.specs.declared.Listing.{Listing}
@@ -26,24 +25,16 @@ use Rattle.symbols_merge.specs.Merged.{RESULT-GROUPS}
 use Rattle.symbols_taken.specs.Code.{usedBytes, LateIn, takenIn}
 use Rattle.symbols_taken.proofs.Marks.{used-within}
 use Rattle.symbols_glabels.specs.Words.{SymbolIndex, glabelWord, Holds, GlabelsReady}
-use Rattle.symbols_rows.specs.Rows.{wordIn, wordsIn, HoldersOf}
+use Rattle.symbols_rows.specs.Rows.{wordsIn, HoldersOf}
 use Rattle.symbols_rows.specs.Steps.{idsListed, Listing as IdsListing}
 use Rattle.symbols_holders.specs.Ready.{idCount, symbolsIn, HoldersReady}
-use Rattle.symbols_holders.proofs.Holders.{list-few}
 use Rattle.symbols_numbers.specs.Numbers.{Tables, IdRoom, orderIn, groupStarts, IdsNumbered}
 use Rattle.symbols_fill.specs.declared.Filling.{Filling}
 use Rattle.symbols_fill.specs.Fill.{FillReady, FilledRows}
 use Rattle.symbols_fill.proofs.Filled.{ids-few}
-use Rattle.symbols_chain.specs.Chain.{SymbolsListed, SymbolsNumbered}
+use Rattle.symbols_chain.specs.Chain.{SymbolsNumbered}
 use Rattle.symbols_chain.proofs.Chain.{symbols-listed, ready-few}
 use Rattle.symbols_stage.specs.Stage.{SymbolsTaken, StaticsRead, GlabelsRead, IdsFilledIn, IdsListedIn, IdsHeldIn, IdRooms, OrderLeft, NumbersLeft}
-
--- a buffer whose part from `from` to `to` was lent and came back as `part`
-abbrev putBack : ℕ → ℕ → List ℕ → List ℕ → List ℕ
-putBack from to l part = take from l ++ (part ++ drop (to - from) (drop from l))
-
-abbrev lent : ℕ → ℕ → List ℕ → List ℕ
-lent from to l = take (to - from) (drop from l)
 
 -- ---- 15 and 16
 

@@ -2,7 +2,6 @@
 -- sh_addralign; sections of type 8 and 0 have no place. The section headers follow at the next multiple of 4.
 use Prim.Native.Nat.{ℕ, zero, suc, _+_, _-_, _*_, _/_}
 use mathlib.Core.Bool.{Bool, cond}
-use mathlib.Core.List.{List}
 use lib.Dec.{eqb}
 
 -- the next multiple of an alignment; 0 and 1 ask for none

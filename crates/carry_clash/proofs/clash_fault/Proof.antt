@@ -1,7 +1,5 @@
 -- The lower of both places. Assumes nothing.
 use denote.Ref.{now}
-use mathlib.Core.Path.{_≡_, refl, sym, ap, _∙_}
-use Prim.Native.Nat.{_≤_}
 use Rattle.elf_check.proofs.Views.{view-count}
 use Rattle.merge_kept.proofs.Kept.{kept-le}
 use Rattle.carry_clash.proofs.Joined.{clash-found}

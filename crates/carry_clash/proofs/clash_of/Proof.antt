@@ -1,7 +1,7 @@
 -- Each way through the tests. Assumes nothing.
 use denote.Ref.{now}
 use native.Mathlib.Omega.{arith}
-use mathlib.Core.Path.{_≡_, refl, sym, ap, _∙_}
+use mathlib.Core.Path.{_∙_}
 use Rattle.elf_check.proofs.Views.{view-count}
 use Rattle.carry_clash.proofs.Joined.{goal-low, clash-left, clash-empty, clash-past, clash-same, clash-other}
 use borrow.Author.Needs.{needs}

@@ -7,8 +7,8 @@ use Rattle.carry_clash.specs.Clash.{joinedSection, isMisjoined}
 use Rattle.carry_clash.proofs.Joined.{least-step}
 use borrow.Author.Needs.{needs}
 use native.Mathlib.Omega.{arith}
-use Prim.Native.Nat.{ℕ, _-_, _≤_, _<_}
-use mathlib.Core.Path.{_≡_, refl, sym, ap, _∙_}
+use Prim.Native.Nat.{ℕ, _-_, _≤_}
+use mathlib.Core.Path.{_≡_, sym, ap, _∙_}
 use denote.Ref.{now}
 use Rattle.carry_clash.proofs.first_clash.Statement.{statement}
 use Rattle.carry_clash.proofs.first_clash.Tie as tie

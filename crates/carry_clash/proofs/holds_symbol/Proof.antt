@@ -8,7 +8,7 @@ use Rattle.carry_clash.proofs.Cut.{inSection, symbol-there, symbol-next
 use borrow.Author.Needs.{needs}
 use native.Mathlib.Omega.{arith}
 use Prim.Native.Nat.{_-_, _≤_}
-use mathlib.Core.Path.{_≡_, refl, sym, _∙_}
+use mathlib.Core.Path.{_≡_, refl}
 use denote.Ref.{now}
 use Rattle.carry_clash.proofs.holds_symbol.Statement.{statement}
 use Rattle.carry_clash.proofs.holds_symbol.Tie as tie

@@ -1,6 +1,6 @@
 -- By whether there are addends. Assumes nothing.
 use denote.Ref.{now}
-use mathlib.Core.Path.{_≡_, refl, sym, ap, _∙_}
+use mathlib.Core.Path.{sym, ap, _∙_}
 use mathlib.Core.Bool.{Bool}
 use Rattle.elf_readers.specs.Readers.{sectionNamed}
 use Rattle.carry_clash.specs.Clash.{joinedName}

@@ -1,8 +1,8 @@
 -- Each name by its code. Assumes nothing.
 use denote.Ref.{now}
 use native.Mathlib.Omega.{arith}
-use mathlib.Core.Path.{_≡_, refl, sym, ap, _∙_}
-use mathlib.Core.Bool.{true, false}
+use mathlib.Core.Path.{_≡_, sym, ap, _∙_}
+use mathlib.Core.Bool.{true}
 use Rattle.base_scope.specs.Text.{text}
 use Rattle.base_scope.specs.Codes.{codeName, sectionCodes}
 use Rattle.elf_readers.specs.Readers.{sectionNamed}

@@ -1,5 +1,5 @@
 -- The bounds decide first, then the path. Assumes nothing.
-use mathlib.Core.Path.{_≡_, refl, sym, ap, _∙_}
+use mathlib.Core.Path.{sym, ap, _∙_}
 use mathlib.Core.Bool.{not}
 use borrow.Author.Needs.{needs}
 use Rattle.splice_stages.proofs.breaks_limits.Statement.{statement}

@@ -1,6 +1,5 @@
 -- A search for the first byte that may not stand in a path: none before k is one. Assumes nothing.
 use Rattle.base_lists.specs.Ranges.{first}
-use Rattle.base_scope.specs.Limits.{PATH_LIMIT}
 use Rattle.splice_stages.proofs.Limits.{badByte, path-long, path-bad, path-good, path-all}
 use borrow.Author.Needs.{needs}
 use native.Mathlib.Omega.{arith}

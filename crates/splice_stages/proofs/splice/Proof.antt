@@ -1,5 +1,5 @@
 -- The answer is as all the stages left it; then the output past the result and the working buffers are zeroed. Assumes nothing.
-use mathlib.Core.Path.{_≡_, refl, sym, ap, _∙_}
+use mathlib.Core.Path.{ap, _∙_}
 use Rattle.base_answers.proofs.Answered.{length-inside}
 use Rattle.base_buffers.specs.Buffers.{zeros}
 use Rattle.splice_stages.proofs.Sections.{spliced-of}

@@ -1,6 +1,6 @@
 -- Refusal 1, then the inputs, then the stages behind them. Assumes nothing.
 use denote.Ref.{now}
-use mathlib.Core.Path.{_≡_, refl, sym, ap, _∙_}
+use mathlib.Core.Path.{refl, sym, _∙_}
 use Rattle.base_answers.proofs.Answered.{answered-as, answered-refused}
 use Rattle.merge_inputs.proofs.Reading.{took-sound, inputs-read}
 use Rattle.splice_stages.proofs.Limits.{path-short, splice-limits}

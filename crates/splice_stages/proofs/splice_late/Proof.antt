@@ -1,6 +1,6 @@
 -- 14; where it does not refuse, the symbols. Assumes nothing.
 use denote.Ref.{now}
-use mathlib.Core.Path.{_≡_, refl, sym, ap, _∙_}
+use mathlib.Core.Path.{refl, _∙_}
 use Rattle.blocks_places.specs.Lines.{lineCount}
 use Rattle.blocks_places.specs.Table.{placesIn}
 use Rattle.merge_buffers.specs.Buffers.{blocksPart, placesPart}

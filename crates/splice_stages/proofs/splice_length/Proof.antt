@@ -6,7 +6,6 @@ use mathlib.Core.Path.{ap}
 use lib.ListN.{length}
 use native.Mathlib.Omega.{arith}
 use denote.Ref.{now}
-use borrow.Author.Needs.{needs}
 use Rattle.splice_stages.proofs.splice_length.Statement.{statement}
 use Rattle.splice_stages.proofs.splice_length.Tie as tie
 

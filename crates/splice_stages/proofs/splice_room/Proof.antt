@@ -1,7 +1,6 @@
 -- The result is written where it fits; where it does not, its length is the place of refusal 21. Assumes nothing.
 use denote.Ref.{now}
-use native.Mathlib.Omega.{arith}
-use mathlib.Core.Path.{_≡_, refl, sym, ap, _∙_}
+use mathlib.Core.Path.{refl}
 use Rattle.base_answers.proofs.Answered.{room-there, room-short}
 use Rattle.splice_stages.specs.Call.{stageIn}
 use Rattle.splice_stages.proofs.Result.{room-written, room-unwritten}

@@ -1,6 +1,6 @@
 -- 11 to 13; where none refuses, the late step. Assumes nothing.
 use denote.Ref.{now}
-use mathlib.Core.Path.{_≡_, refl, sym, ap, _∙_}
+use mathlib.Core.Path.{refl}
 use Rattle.blocks_places.specs.Lines.{lineCount}
 use Rattle.blocks_places.specs.Table.{placesIn}
 use Rattle.merge_buffers.specs.Buffers.{blocksPart, placesPart}

@@ -1,9 +1,9 @@
 -- 15 to 19; where none refuses, the result. Assumes nothing.
 use denote.Ref.{now}
-use mathlib.Core.Path.{_≡_, refl, sym, ap, _∙_}
+use mathlib.Core.Path.{refl, ap, _∙_}
 use Rattle.blocks_places.specs.Lines.{lineCount}
 use Rattle.blocks_places.specs.Table.{placesIn}
-use Rattle.merge_buffers.specs.Buffers.{blocksPart, placesPart}
+use Rattle.merge_buffers.specs.Buffers.{placesPart}
 use lib.ListN.{length}
 use Rattle.base_answers.proofs.Answered.{answered-as, answered-refused}
 use Rattle.base_answers.specs.Answers.{roomFor}

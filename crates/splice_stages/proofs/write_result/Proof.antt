@@ -1,7 +1,6 @@
 -- The sections, the number of locals, the symbols, one behind the other. Assumes nothing.
 use denote.Ref.{now}
 use native.Mathlib.Omega.{arith}
-use mathlib.Core.Path.{_≡_, refl, sym, ap, _∙_}
 use Rattle.splice_stages.specs.Call.{stageIn}
 use Rattle.splice_stages.proofs.Result.{order-same, result-put}
 use borrow.Author.Needs.{needs}
