@@ -8,7 +8,7 @@ a line
     # wrong: LABEL, definition NAME, theorem THEOREM: false at ..
 
 and the replacements that follow it. Here each must be refused for itself: a declaration of the function's own proof, or the theorem, is refused, and not only because
-something that it cites was not admitted, or because the proof names a need that the code no longer has.
+something that it cites was not admitted, or because the proof names a need or a step that the code no longer has.
 
     tools/wrong_programs.py              all of them; exit 1 where one is not refused for itself, or an edit file is not in this form
     tools/wrong_programs.py --self-test  that this test can fail, on made-up logs
@@ -19,7 +19,7 @@ import re
 import sys
 
 PROGRAM = re.compile(r"^# wrong: (\w+), (?:fn ([\w:]+)|definition ([\w'-]+)(?:, theorem ([\w'-]+))?): (.+)$")
-REFUSED = re.compile(r"^(\S+\.antt):\d+:\d+: error: `([^`]+)`: (?!`[^`]+` was not admitted)(?!.* that can be named from here)", re.M)
+REFUSED = re.compile(r"^(\S+\.antt):\d+:\d+: error: `([^`]+)`: (?!`[^`]+` was not admitted)(?!.* that can be named from here)(?!record .* has no field)", re.M)
 UNCLOSED = re.compile(r"^fn (\S+): no proof: .*`search` does not close", re.M)
 
 
@@ -110,11 +110,13 @@ def self_test():
     text = "/r/crates/a/proofs/%s/Proof.antt:3:1: error: `returns`: %s\n"
     own, cited = text % ("f", "the two types differ"), text % ("g", "`Inv-loop` was not admitted, so this cannot be checked")
     shape = text % ("g", "`tie.Need-add`: module `a.g.Tie` has no `Need-add` that can be named from here")
+    field = text % ("g", "record `a.g.Lts.Start` has no field `before`")
     law = "/r/crates/a/proofs/Laws.antt:9:1: error: `known`: the two types differ\n"
     two = [("left", "f", None), ("harmless", "g", None)]
     assert missed(two, own) == [("harmless", "g")], "a planted harmless program must be reported"
     assert missed(two, own + cited) == [("harmless", "g")], "one that is refused through another must be reported"
     assert missed(two, own + shape) == [("harmless", "g")], "one whose proof only no longer fits must be reported"
+    assert missed(two, own + field) == [("harmless", "g")], "one whose proof reads a step that the code no longer has must be reported"
     assert missed(two, own + text % ("g", "the two types differ")) == []
     assert missed([("late", None, "known")], law) == []
     assert missed([("late", None, "other")], law) == [("late", "other")]

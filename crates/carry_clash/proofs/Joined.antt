@@ -7,11 +7,11 @@ use native.Mathlib.Nat.{min-eq-left, min-eq-right}
 use native.Mathlib.Omega.{arith}
 use lib.ListN.{length}
 use lib.Dec.{eqb, ltb}
-use borrow.Author.Tests.{lt-ltb, le-ltb, ltb-true, eq-eqb, ne-eqb, eqb-false}
+use borrow.Author.Tests.{lt-ltb, le-ltb, ltb-true, eq-eqb, ne-eqb, eqb-true, eqb-false}
 use Rattle.base_lists.specs.Ranges.{first, least}
 use Rattle.base_lists.proofs.Ranges.{by-test, and-parts, least-next, least-high}
 use Rattle.base_fields.specs.declared.ByteOrder.{ByteOrder}
-use Rattle.base_scope.specs.Codes.{LATE-RODATA, LINES, CODES, targetCode}
+use Rattle.base_scope.specs.Codes.{TEXT, DATA, RODATA, BSS, LATE-RODATA, LINES, CODES, targetCode}
 use Rattle.base_scope.specs.declared.Finding.{Finding}
 use Rattle.base_scope.specs.Refusals.{foundBelow}
 use Rattle.elf_records.specs.declared.section.SectionHeader.{SectionHeader}
@@ -24,7 +24,7 @@ use Rattle.merge_kept.specs.Kept.{kept}
 use Rattle.symbols_taken.specs.Used.{codeOf, isSource, isSourceTable}
 use Rattle.symbols_taken.specs.Code.{codeIn}
 use Rattle.symbols_taken.proofs.Sections.{code-is}
-use Rattle.carry_clash.specs.Clash.{isCut, joinedName, carriedCode, isCarried, isOtherTable, joinedSection, isMisjoined, clashOf, clashAt, clashFinding}
+use Rattle.carry_clash.specs.Clash.{isCut, joinedName, nameAmong, carriedCode, isCarried, isOtherTable, joinedSection, isMisjoined, clashOf, clashAt, clashFinding}
 
 -- ---- is it carried
 
@@ -146,6 +146,43 @@ lower-first a b h = let l : a ≤ b = omega (arith, h) in sym (min-eq-left l)
 
 pub lower-second : (a b : ℕ) → b ≤ a → b ≡ min a b
 lower-second a b h = sym (min-eq-right h)
+
+-- ---- names
+
+pub names-of : (rela : Bool) (c : ℕ) → 1 ≤ c → c ≤ LINES
+    → nameAmong c (joinedName rela TEXT) (joinedName rela DATA) (joinedName rela RODATA) (joinedName rela BSS) ≡ joinedName rela c
+unfolding nameAmong
+names-of rela c l u = by-test (eqb c TEXT)
+    (λ t. rw t (ap (joinedName rela) (sym (eqb-true c TEXT t))))
+    (λ f. by-test (eqb c DATA)
+    (λ t. rw (f, t) (ap (joinedName rela) (sym (eqb-true c DATA t))))
+    (λ g. by-test (eqb c RODATA)
+    (λ t. rw (f, g, t) (ap (joinedName rela) (sym (eqb-true c RODATA t))))
+    (λ h.
+    let x = eqb-false c TEXT f in
+    let y = eqb-false c DATA g in
+    let z = eqb-false c RODATA h in
+    let e : BSS ≡ c = omega (arith, x, y, z, l, u) in
+    rw (f, g, h) (ap (joinedName rela) e))))
+
+module _ (o : ByteOrder) (C : List ℕ) (c : ℕ) (a b d e : List ℕ) where
+  pub among-text : c ≡ TEXT → sectionNamed o C a ≡ sectionNamed o C (nameAmong c a b d e)
+  unfolding nameAmong
+  among-text x = rw (eq-eqb c TEXT x)
+
+  module _ (x : c ≡ TEXT → ⊥) where
+    pub among-data : c ≡ DATA → sectionNamed o C b ≡ sectionNamed o C (nameAmong c a b d e)
+    unfolding nameAmong
+    among-data y = rw (ne-eqb c TEXT x, eq-eqb c DATA y)
+
+    module _ (y : c ≡ DATA → ⊥) where
+      pub among-rodata : c ≡ RODATA → sectionNamed o C d ≡ sectionNamed o C (nameAmong c a b d e)
+      unfolding nameAmong
+      among-rodata z = rw (ne-eqb c TEXT x, ne-eqb c DATA y, eq-eqb c RODATA z)
+
+      pub among-bss : (c ≡ RODATA → ⊥) → sectionNamed o C e ≡ sectionNamed o C (nameAmong c a b d e)
+      unfolding nameAmong
+      among-bss z = rw (ne-eqb c TEXT x, ne-eqb c DATA y, ne-eqb c RODATA z)
 
 -- ---- together
 

@@ -8,7 +8,7 @@ use lib.Dec.{eqb, ltb}
 use Rattle.base_lists.specs.Ranges.{first, least, pickList}
 use Rattle.base_fields.specs.declared.ByteOrder.{ByteOrder}
 use Rattle.base_scope.specs.Text.{text}
-use Rattle.base_scope.specs.Codes.{LINES, codeName, targetCode}
+use Rattle.base_scope.specs.Codes.{TEXT, DATA, RODATA, LINES, codeName, targetCode}
 use Rattle.base_scope.specs.declared.Finding.{Finding}
 use Rattle.base_scope.specs.Refusals.{foundBelow}
 use Rattle.elf_readers.specs.Readers.{sectionCount, section, sectionNamed, codedSection, codedContents}
@@ -39,6 +39,10 @@ module _ (o : ByteOrder) (C : List ℕ) where
 -- the name of the table that entries for the target of a code join
 unfoldable pub joinedName : Bool → ℕ → List ℕ
 joinedName rela c = pickList rela (text ".rela") (text ".rel") ++ codeName c
+
+-- one of four names, by the code (proofs/Joined.antt, `names-of`: of the names of four codes it is the code's)
+unfoldable pub nameAmong : ℕ → List ℕ → List ℕ → List ℕ → List ℕ → List ℕ
+nameAmong c a b d e = pickList (eqb c TEXT) a (pickList (eqb c DATA) b (pickList (eqb c RODATA) d e))
 
 module _ (o : ByteOrder) (A : List ℕ) where
   -- A's table t is carried: it relocates one of the five, and that one holds bytes

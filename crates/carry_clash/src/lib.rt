@@ -2,13 +2,12 @@
 // views.
 ghost use mathlib.Core.Path.{_≡_};
 ghost use Prim.Native.Nat.{_≤_, _<_, min};
-ghost use mathlib.Core.Bool.{true, false};
 ghost use Rattle.base_lists.specs.Ranges.{first, least};
 ghost use Rattle.base_scope.specs.Codes.{LINES, CODES};
 ghost use Rattle.elf_readers.specs.Readers.{sectionCount, sectionNamed};
 ghost use Rattle.elf_readers.specs.Bounds.{Named};
 ghost use Rattle.elf_check.specs.View.{Viewed};
-ghost use Rattle.carry_clash.specs.Clash.{isStale, leadsOut, holdsSymbol, isMissed, isCut, joinedName, isCarried, isOtherTable, joinedSection, isMisjoined, clashOf, clashFinding};
+ghost use Rattle.carry_clash.specs.Clash.{isStale, leadsOut, holdsSymbol, isMissed, isCut, joinedName, nameAmong, isCarried, isOtherTable, joinedSection, isMisjoined, clashOf, clashFinding};
 use base_fields::ByteOrder;
 use base_scope::Finding;
 use elf_check::View;
@@ -101,38 +100,29 @@ fn first_cut(order: ByteOrder, compiled: &[u8], view: View, stay: usize) -> usiz
     n
 }
 
-// C's first section of the name that entries with addends for a code join.
-fn section_with_addends(order: ByteOrder, compiled: &[u8], code: u32) -> usize
-    requires { ⌜ Named order (now compiled) × (1 ≤ code) × (code ≤ LINES) ⌝ }
-    ensures { λ r. ⌜ r ≡ sectionNamed order (now (compiled .entry)) (joinedName true code) ⌝ }
+// C's first section of one of four names, by the code.
+fn section_among(
+    order: ByteOrder,
+    compiled: &[u8],
+    code: u32,
+    text: &[u8],
+    data: &[u8],
+    rodata: &[u8],
+    bss: &[u8],
+) -> usize
+    requires { ⌜ Named order (now compiled) ⌝ }
+    ensures { λ r. ⌜ r ≡ sectionNamed order (now (compiled .entry)) (nameAmong code (now (text .entry)) (now («data» .entry)) (now (rodata .entry)) (now (bss .entry))) ⌝ }
 {
     if code == base_scope::TEXT {
-        return elf_readers::section_named(order, compiled, b".rela.text");
+        return elf_readers::section_named(order, compiled, text);
     }
     if code == base_scope::DATA {
-        return elf_readers::section_named(order, compiled, b".rela.data");
+        return elf_readers::section_named(order, compiled, data);
     }
     if code == base_scope::RODATA {
-        return elf_readers::section_named(order, compiled, b".rela.rodata");
+        return elf_readers::section_named(order, compiled, rodata);
     }
-    elf_readers::section_named(order, compiled, b".rela.bss")
-}
-
-// The same without addends.
-fn section_without(order: ByteOrder, compiled: &[u8], code: u32) -> usize
-    requires { ⌜ Named order (now compiled) × (1 ≤ code) × (code ≤ LINES) ⌝ }
-    ensures { λ r. ⌜ r ≡ sectionNamed order (now (compiled .entry)) (joinedName false code) ⌝ }
-{
-    if code == base_scope::TEXT {
-        return elf_readers::section_named(order, compiled, b".rel.text");
-    }
-    if code == base_scope::DATA {
-        return elf_readers::section_named(order, compiled, b".rel.data");
-    }
-    if code == base_scope::RODATA {
-        return elf_readers::section_named(order, compiled, b".rel.rodata");
-    }
-    elf_readers::section_named(order, compiled, b".rel.bss")
+    elf_readers::section_named(order, compiled, bss)
 }
 
 // C's first section of the name that entries for a code join.
@@ -141,9 +131,25 @@ pub fn joined_section(order: ByteOrder, compiled: &[u8], rela: bool, code: u32) 
     ensures { λ r. ⌜ r ≡ sectionNamed order (now (compiled .entry)) (joinedName rela code) ⌝ }
 {
     if rela {
-        return section_with_addends(order, compiled, code);
+        return section_among(
+            order,
+            compiled,
+            code,
+            b".rela.text",
+            b".rela.data",
+            b".rela.rodata",
+            b".rela.bss",
+        );
     }
-    section_without(order, compiled, code)
+    section_among(
+        order,
+        compiled,
+        code,
+        b".rel.text",
+        b".rel.data",
+        b".rel.rodata",
+        b".rel.bss",
+    )
 }
 
 // Whether A's table t is carried: it relocates one of the five sections, and that one holds bytes.

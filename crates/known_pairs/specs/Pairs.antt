@@ -34,7 +34,7 @@ staticNames C = map (workingName C) (statics Big C MODE_LOCAL 0)
 
 -- the symbols of two objects without blocks and statics, and the names of the first n symbols of the result behind entry 0
 abbrev symbolsOf : List ℕ → List ℕ → Candidates
-symbolsOf C A = mergeCandidates Big C A [] [] 0 []
+symbolsOf C A = mergeCandidates Big C A [] [] 0 0
 
 abbrev resultNames : Candidates → ℕ → List (List ℕ)
 resultNames s n = select (λ k. true) (λ k. s .name (mergedAt s (k + 1))) n

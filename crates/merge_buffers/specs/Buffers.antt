@@ -4,7 +4,7 @@ use Prim.Native.Nat.{ℕ, _+_, _≤_}
 use mathlib.Core.Path.{_≡_}
 use mathlib.Core.List.{List}
 use lib.ListN.{length, take, drop}
-use Rattle.base_scope.specs.Limits.{BLOCK_TABLE, PLACE_TABLE, LATE_TABLE, STATIC_TABLE, USED_TABLE, GLABEL_TABLE, ID_TABLE, POSITION_TABLE, INDEX_TABLE}
+use Rattle.base_scope.specs.Limits.{BLOCK_TABLE, PLACE_TABLE, SPAN_TABLE, LATE_TABLE, STATIC_TABLE, USED_TABLE, GLABEL_TABLE, ID_TABLE, POSITION_TABLE, INDEX_TABLE}
 
 -- ---- where tables start, and how long the buffers are
 
@@ -44,6 +44,9 @@ NUMBERS_AT = POSITION_TABLE
 
 abbrev pub SPANS_AT : ℕ
 SPANS_AT = NUMBERS_AT + POSITION_TABLE
+
+abbrev pub SPANS_END : ℕ
+SPANS_END = SPANS_AT + SPAN_TABLE
 
 abbrev pub INDEX_BUFFER : ℕ
 INDEX_BUFFER = INDEX_TABLE

@@ -27,6 +27,8 @@ pub const NUMBERS_AT: usize = 49152;
 
 pub const SPANS_AT: usize = 98304;
 
+pub const SPANS_END: usize = 106496;
+
 pub const INDEX_BUFFER: usize = 114688;
 
 // A table of a buffer, to be read.

@@ -20,7 +20,7 @@ use Rattle.blocks_places.specs.Places.{Place}
 use Rattle.blocks_places.specs.Table.{placesIn}
 use Rattle.open_inputs.specs.declared.Opened.{Opened}
 use Rattle.statics_walk.specs.Walk.{statics}
-use Rattle.merge_buffers.specs.Buffers.{ROWS_AT, HOLDERS_AT, USED_AT, SPANS_AT, INDEX_BUFFER, BLOCK_BUFFER, PLACE_BUFFER, STEP_BUFFER, blocksPart, idsPart, placesPart, lateStepPart, staticsPart, glabelsPart, listPart, orderPart, BuffersHeld, KeptBefore}
+use Rattle.merge_buffers.specs.Buffers.{ROWS_AT, HOLDERS_AT, USED_AT, SPANS_AT, SPANS_END, INDEX_BUFFER, BLOCK_BUFFER, PLACE_BUFFER, STEP_BUFFER, blocksPart, idsPart, placesPart, lateStepPart, staticsPart, glabelsPart, listPart, orderPart, BuffersHeld, KeptBefore}
 use Rattle.merge_buffers.proofs.Parts.{lent, putBack, part-long, part-lent, put-table, put-kept, kept-part}
 use Rattle.merge_inputs.specs.Taken.{Took}
 use Rattle.merge_sections.specs.declared.Stage.{Stage}
@@ -30,6 +30,7 @@ use Rattle.symbols_merge.specs.Candidates.{Candidates}
 use Rattle.symbols_merge.specs.Listed.{listed}
 use Rattle.symbols_merge.specs.Merged.{isMerged, groupAtPosition, merged, mergedCount, localCount}
 use Rattle.symbols_ids.specs.Table.{resultSymbols}
+use Rattle.symbols_ids.specs.Ids.{mergeCandidates}
 use Rattle.symbols_chain.specs.declared.Numbering.{Numbering}
 use Rattle.symbols_fill.specs.declared.Filling.{Filling}
 use Rattle.symbols_table.specs.Stage.{candidatesBy}
@@ -37,7 +38,6 @@ use Rattle.symbols_table.specs.Table.{entryIn, symbolsTableIn}
 use Rattle.symbols_table.proofs.Table.{symbols-ready, symbols-table}
 use Rattle.symbols_stage.specs.declared.Manner.{Manner}
 use Rattle.symbols_stage.specs.declared.Counts.{Counts}
-use Rattle.symbols_stage.specs.Verdict.{stageCandidates}
 use Rattle.symbols_stage.specs.declared.SymbolsEnd.{SymbolsEnd}
 use Rattle.symbols_stage.specs.declared.SymbolsEnd.the-variants.{Numbered}
 use Rattle.symbols_stage.specs.End.{fillingOf, numberingBy, SymbolsHeld, StageEnd}
@@ -47,14 +47,14 @@ use Rattle.splice_stages.proofs.Sections.{splice-long}
 
 -- ---- the rows of spans stand behind the numbers
 
-module _ (from to : ℕ) (index : List ℕ) (starts : from ≡ SPANS_AT) (ends : to ≡ INDEX_BUFFER) (room : INDEX_BUFFER ≤ length index) where
+module _ (from to : ℕ) (index : List ℕ) (starts : from ≡ SPANS_AT) (ends : to ≡ SPANS_END) (room : INDEX_BUFFER ≤ length index) where
   pub spans-room : SPAN_TABLE ≤ length (lent from to index)
   spans-room =
-      let e = ap length (part-lent SPANS_AT 16384 from to index starts ends) ∙ part-long SPANS_AT 16384 index (omega (arith, room)) in
+      let e = ap length (part-lent SPANS_AT SPAN_TABLE from to index starts ends) ∙ part-long SPANS_AT SPAN_TABLE index (omega (arith, room)) in
       omega (arith, e)
 
   pub spans-kept : (part : List ℕ) → length part ≡ length (lent from to index) → KeptBefore SPANS_AT index (putBack from to index part)
-  spans-kept part same = put-kept SPANS_AT 16384 from to index part (putBack from to index part) starts ends (omega (arith, room)) same refl
+  spans-kept part same = put-kept SPANS_AT SPAN_TABLE from to index part (putBack from to index part) starts ends (omega (arith, room)) same refl
 
 -- ---- the late step
 
@@ -155,7 +155,7 @@ module _ (C A B : List ℕ) (s : Stage) (w : Manner) (r : SymbolsEnd) (table tab
   P = placesIn (placesPart places) (lineCount B)
 
   abbrev t : Candidates
-  t = stageCandidates (s .inputs .order) C A P B (w .mode) (w .head)
+  t = mergeCandidates (s .inputs .order) C A P B (w .mode) (w .head)
 
   abbrev symbols : SymbolsHeld C A B P s w n table1 steps1 index1
   symbols = x .held n q
@@ -178,7 +178,7 @@ module _ (C A B : List ℕ) (s : Stage) (w : Manner) (r : SymbolsEnd) (table tab
   late-1 = kept-part USED_AT steps steps1 (x .keptSteps) 0 LATE_TABLE (omega arith)
 
   own : candidatesBy C A P B (staticsPart steps1) (numberingBy s w n .filling) ≡ t
-  unfolding numberingBy fillingOf stageCandidates
+  unfolding numberingBy fillingOf mergeCandidates
   own = rw (symbols .statics-are)
 
   counted : n .count ≡ mergedCount t

@@ -33,7 +33,8 @@ use Rattle.merge_line_up.specs.Agrees.{Agrees}
 use Rattle.merge_sections.specs.Sections.{lateFinding, resultSection, registerBytes}
 use Rattle.symbols_merge.specs.Merged.{localCount}
 use Rattle.symbols_ids.specs.Table.{resultSymbols}
-use Rattle.symbols_stage.specs.Verdict.{stageCandidates, symbolStagesVerdict}
+use Rattle.symbols_ids.specs.Ids.{mergeCandidates}
+use Rattle.symbols_stage.specs.Verdict.{symbolStagesVerdict}
 
 -- refusal 1 of this call: the lengths of C, A and the block file, the mode, and the lengths of the working buffers
 unfoldable pub spliceBounds : ℕ → ℕ → ℕ → ℕ → ℕ → ℕ → ℕ → ℕ → List Bound
@@ -64,7 +65,7 @@ module _ (o : ByteOrder) (C A : List ℕ) (P : List Place) (B : List ℕ) where
   module _ (mode head : ℕ) where
     unfoldable pub spliceBytes : List ℕ
     spliceBytes =
-        sectionPieces ++ (encoded o 4 (localCount (stageCandidates o C A P B mode head)) ++ resultSymbols o C A P B mode (statics o C mode head))
+        sectionPieces ++ (encoded o 4 (localCount (mergeCandidates o C A P B mode head)) ++ resultSymbols o C A P B mode (statics o C mode head))
 
     -- 14 to 19, behind the line-up
     unfoldable pub lateVerdict : Verdict

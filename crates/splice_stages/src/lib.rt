@@ -193,7 +193,7 @@ fn write_pieces(
     let lines = merge_buffers::part(places, 0, base_scope::PLACE_TABLE);
     let late = merge_buffers::part(steps, 0, base_scope::LATE_TABLE);
     let from = merge_buffers::bound(merge_buffers::SPANS_AT);
-    let to = merge_buffers::bound(merge_buffers::INDEX_BUFFER);
+    let to = merge_buffers::bound(merge_buffers::SPANS_END);
     write_sections(
         out,
         compiled,

@@ -10,7 +10,7 @@ use Rattle.elf_records.specs.declared.symbol.SymbolEntry.{SymbolEntry}
 use Rattle.elf_symbols.specs.Symbols.{symbolCount, symbol, symbolStrings, symbolName}
 use Rattle.blocks_places.specs.Places.{Place}
 use Rattle.statics_table.specs.declared.Static.{Static}
-use Rattle.statics_table.specs.Statics.{workingName, nameHead}
+use Rattle.statics_table.specs.Statics.{workingName}
 use Rattle.statics_entry.specs.Entry.{nth}
 use Rattle.statics_walk.specs.Walk.{statics}
 use Rattle.statics_symbols.specs.Entries.{staticSymbol}
@@ -58,6 +58,6 @@ module _ (o : ByteOrder) (C A : List ℕ) (P : List Place) (B : List ℕ) (mode 
     binding = λ i. bindingOf (entryOf i .«st_info»);
   }
 
--- the candidates of a merge in a mode: its statics are those of C
-unfoldable pub mergeCandidates : ByteOrder → List ℕ → List ℕ → List Place → List ℕ → ℕ → List ℕ → Candidates
-mergeCandidates o C A P B mode path = candidates o C A P B mode (statics o C mode (length (nameHead mode path)))
+-- the candidates of a merge in a mode, which puts `head` bytes in front of a static's name: its statics are those of C
+unfoldable pub mergeCandidates : ByteOrder → List ℕ → List ℕ → List Place → List ℕ → ℕ → ℕ → Candidates
+mergeCandidates o C A P B mode head = candidates o C A P B mode (statics o C mode head)

@@ -41,7 +41,7 @@ use Rattle.symbols_taken.specs.Passed.{TakenPassed}
 use Rattle.symbols_taken.specs.Code.{usedBytes, LateIn, StepIn}
 use Rattle.symbols_taken.proofs.InHand.{step-late, taken-is}
 use Rattle.symbols_taken.proofs.Passed.{taken-passed}
-use Rattle.symbols_ids.specs.Ids.{candidates}
+use Rattle.symbols_ids.specs.Ids.{candidates, mergeCandidates}
 use Rattle.symbols_rows.specs.Rows.{HoldersOf}
 use Rattle.symbols_rows.specs.Steps.{verdictIn}
 use Rattle.symbols_holders.specs.Ready.{idCount, symbolsIn, HoldersReady}
@@ -61,7 +61,7 @@ use Rattle.symbols_stage.specs.declared.Manner.{Manner}
 use Rattle.symbols_stage.specs.declared.Counts.{Counts}
 use Rattle.symbols_stage.specs.declared.SymbolsEnd.{SymbolsEnd}
 use Rattle.symbols_stage.specs.declared.SymbolsEnd.the-variants.{Numbered, Refused as Unnumbered}
-use Rattle.symbols_stage.specs.Verdict.{stageCandidates, listVerdict, symbolStagesVerdict}
+use Rattle.symbols_stage.specs.Verdict.{listVerdict, symbolStagesVerdict}
 use Rattle.symbols_stage.specs.Stage.{SymbolsTaken, StaticsRead, GlabelsRead, IdsListedIn, IdsHeldIn, IdRooms}
 use Rattle.symbols_stage.specs.End.{endVerdict, countsOf, fillingOf, numberingBy, NumberedEnd, ListEnd, SymbolsHeld, StaticsEnd, StageEnd}
 
@@ -124,10 +124,10 @@ module _ (C A : List ℕ) (f : Filling) (m : ℕ) (table table1 steps steps1 : L
     held-as : HoldersOf (symbolsIn (f .inputs .order) C A (staticsPart steps) (f .sources) (idsPart table1)) (holdersPart places1) m
     held-as = rw (← statics-same) (h .held)
 
-    pub list-number : (used index index1 : List ℕ) → FillReady C A (staticsPart steps) used (lateStepPart steps) f → BuffersHeld table places steps index → length index1 ≡ length index
+    in-tables : (used index index1 : List ℕ) → FillReady C A (staticsPart steps) used (lateStepPart steps) f → BuffersHeld table places steps index → length index1 ≡ length index
         → Tables (idsPart table1) (listPart steps1) (holdersPart places1) m × HoldersFirst (listPart steps1) (holdersPart places1) m × IdRooms (listPart steps1) m
-        × BuffersHeld table1 places1 steps1 index1
-    list-number used index index1 q b same =
+        × (INDEX_BUFFER ≤ length index1)
+    in-tables used index index1 q b same =
         let p : PLACE_TABLE + POSITION_TABLE ≤ length places1 = rw (h .kept .long) (b .places-long) in
         let long = part-long HOLDERS_AT POSITION_TABLE places1 p in
         let few = ids-few C A (staticsPart steps) (lateStepPart steps) f (q .places) in
@@ -135,21 +135,21 @@ module _ (C A : List ℕ) (f : Filling) (m : ℕ) (table table1 steps steps1 : L
           chain-tables C A (staticsPart steps) (lateStepPart steps) f (idsPart table1) (listPart steps1) m (w .listed) (holdersPart places1) held-as,
           chain-first C A (staticsPart steps) (lateStepPart steps) f (idsPart table1) (listPart steps1) m (w .listed) (holdersPart places1) held-as,
           record { word = λ k l. omega (arith, room .word k l, long) },
-          record {
-            table-long = rw (w .keptTable .long) (b .table-long);
-            places-long = p;
-            steps-long = rw (w .keptSteps .long) (b .steps-long);
-            index-long = rw same (b .index-long);
-          },
+          rw same (b .index-long),
         )
 
-    pub list-end : (r : SymbolsEnd) (index : List ℕ) → NumberedEnd (idsPart table1) (listPart steps1) (holdersPart places1) m (f .sources .statics) r index
-        → ListEnd C A f r table table1 places places1 steps steps1 index
-    list-end r index e = record {
+    pub list-number : (used index index1 : List ℕ) → FillReady C A (staticsPart steps) used (lateStepPart steps) f → BuffersHeld table places steps index
+        → length index1 ≡ length index → (rows list holders : List ℕ) → rows ≡ idsPart table1 → list ≡ listPart steps1 → holders ≡ holdersPart places1
+        → Tables rows list holders m × HoldersFirst list holders m × IdRooms list m × (INDEX_BUFFER ≤ length index1)
+    list-number used index index1 q b same rows list holders t l p = rw (t, l, p) (in-tables used index index1 q b same)
+
+    pub list-end : (r : SymbolsEnd) (index rows list holders : List ℕ) → rows ≡ idsPart table1 → list ≡ listPart steps1 → holders ≡ holdersPart places1
+        → NumberedEnd rows list holders m (f .sources .statics) r index → ListEnd C A f r table table1 places places1 steps steps1 index
+    list-end r index rows list holders t l p e = record {
       positions = m;
       listed = w .listed;
       held = held-as;
-      end = e;
+      end = rw (← t, ← l, ← p) e;
       keptTable = w .keptTable;
       keptPlaces = h .kept;
       keptSteps = w .keptSteps;
@@ -261,10 +261,10 @@ module _ (C A B : List ℕ) (s : Stage) (w : Manner) (table places steps index :
           starts = groupStarts T L H (l .positions)
 
           abbrev t : Candidates
-          t = stageCandidates o C A P B (w .mode) (w .head)
+          t = mergeCandidates o C A P B (w .mode) (w .head)
 
           own-candidates : candidates (f .inputs .order) C A P B (f .mode) (staticsIn U (f .sources .statics)) ≡ t
-          unfolding stageCandidates fillingOf
+          unfolding mergeCandidates fillingOf
           own-candidates = rw list-2
 
           held-in : HoldersOf (symbolsIn (f .inputs .order) C A U (f .sources) T) H (l .positions)

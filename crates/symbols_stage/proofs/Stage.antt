@@ -7,7 +7,7 @@ use lib.ListN.{length}
 use Rattle.base_lists.specs.Windows.{Within, spliced}
 use Rattle.base_fields.specs.declared.ByteOrder.{ByteOrder}
 use Rattle.base_index.specs.Index.{Room}
-use Rattle.base_scope.specs.Limits.{BLOCK_TABLE, PLACE_TABLE, LATE_TABLE, STATIC_TABLE, USED_TABLE, GLABEL_TABLE, SYMBOL_LIMIT, ID_LIMIT, ID_ROW, ID_TABLE, POSITION_TABLE}
+use Rattle.base_scope.specs.Limits.{LATE_TABLE, STATIC_TABLE, USED_TABLE, GLABEL_TABLE, SYMBOL_LIMIT, ID_LIMIT, ID_ROW, ID_TABLE, POSITION_TABLE}
 use Rattle.base_answers.specs.declared.Verdict.{Verdict}
 use Rattle.elf_symbols.specs.Symbols.{symbolCount, symbolName, Table}
 use Rattle.elf_check.specs.View.{Viewed}
@@ -185,11 +185,11 @@ module _ (T L H : List ℕ) (m from to : ℕ) (index : List ℕ) (room : INDEX_B
     pub order-room : Tables T L H m → 4 * m ≤ length (lent from to index)
     order-room w = omega (arith, order-long, w .few)
 
-    pub order-of : (rows list holders part : List ℕ) → rows ≡ T → list ≡ L → holders ≡ H → length part ≡ length (lent from to index)
-        → wordsIn part (length (orderIn rows list holders m RESULT-GROUPS)) ≡ orderIn rows list holders m RESULT-GROUPS → OrderLeft T L H m (putBack from to index part)
-    order-of rows list holders part t l h same w =
+    pub order-of : (part : List ℕ) → length part ≡ length (lent from to index) → wordsIn part (length (orderIn T L H m RESULT-GROUPS)) ≡ orderIn T L H m RESULT-GROUPS
+        → OrderLeft T L H m (putBack from to index part)
+    order-of part same w =
         let put = put-table 0 POSITION_TABLE from to index part (putBack from to index part) starts ends (omega (arith, room)) same refl in
-        record { order = rw (put, ← t, ← l, ← h) w }
+        record { order = rw put w }
 
   module _ (starts : from ≡ NUMBERS_AT) (ends : to ≡ SPANS_AT) where
     number-long : length (lent from to index) ≡ POSITION_TABLE
@@ -198,12 +198,11 @@ module _ (T L H : List ℕ) (m from to : ℕ) (index : List ℕ) (room : INDEX_B
     pub number-room : IdRooms L m → IdRoom L m (lent from to index)
     number-room w = record { word = λ p h. omega (arith, w .word p h, number-long) }
 
-    pub numbers-of : (rows list holders part : List ℕ) → rows ≡ T → list ≡ L → holders ≡ H → length part ≡ length (lent from to index) → IdsNumbered rows list holders m m part
-        → NumbersLeft T L H m index (putBack from to index part)
-    numbers-of rows list holders part t l h same w =
+    pub numbers-of : (part : List ℕ) → length part ≡ length (lent from to index) → IdsNumbered T L H m m part → NumbersLeft T L H m index (putBack from to index part)
+    numbers-of part same w =
         let put = put-table NUMBERS_AT POSITION_TABLE from to index part (putBack from to index part) starts ends (omega (arith, room)) same refl in
         record {
-          numbers = rw (put, ← t, ← l, ← h) w;
+          numbers = rw put w;
           kept = put-kept NUMBERS_AT POSITION_TABLE from to index part (putBack from to index part) starts ends (omega (arith, room)) same refl;
         }
 

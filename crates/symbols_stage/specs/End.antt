@@ -14,6 +14,7 @@ use Rattle.merge_sections.specs.declared.Stage.{Stage}
 use Rattle.statics_table.specs.Table.{staticsIn}
 use Rattle.statics_walk.specs.Walk.{statics}
 use Rattle.symbols_merge.specs.Merged.{RESULT-GROUPS, LOCAL-GROUPS, localCount}
+use Rattle.symbols_ids.specs.Ids.{mergeCandidates}
 use Rattle.symbols_rows.specs.Rows.{HoldersOf}
 use Rattle.symbols_rows.specs.Steps.{verdictIn}
 use Rattle.symbols_holders.specs.Ready.{symbolsIn}
@@ -27,7 +28,7 @@ use Rattle.symbols_stage.specs.declared.Manner.{Manner}
 use Rattle.symbols_stage.specs.declared.Counts.{Counts}
 use Rattle.symbols_stage.specs.declared.SymbolsEnd.{SymbolsEnd}
 use Rattle.symbols_stage.specs.declared.SymbolsEnd.the-variants.{Numbered, Refused as Unnumbered}
-use Rattle.symbols_stage.specs.Verdict.{stageCandidates, listVerdict, symbolStagesVerdict}
+use Rattle.symbols_stage.specs.Verdict.{listVerdict, symbolStagesVerdict}
 
 -- an answer as a verdict
 unfoldable pub endVerdict : SymbolsEnd → Verdict
@@ -71,8 +72,8 @@ pub record SymbolsHeld (C A B : List ℕ) (P : List Place) (s : Stage) (w : Mann
   pub positions : ℕ
   pub tables : TableStage C A P B (staticsPart steps) (lateStepPart steps) (glabelsPart steps) (idsPart table) (listPart steps) (orderPart index) positions (numberingBy s w n)
   pub statics-are : staticsIn (staticsPart steps) (n .statics) ≡ statics (s .inputs .order) C (w .mode) (w .head)
-  pub numbers : NumbersOf (stageCandidates (s .inputs .order) C A P B (w .mode) (w .head)) (numbersPart index)
-  pub locals-are : n .locals ≡ localCount (stageCandidates (s .inputs .order) C A P B (w .mode) (w .head))
+  pub numbers : NumbersOf (mergeCandidates (s .inputs .order) C A P B (w .mode) (w .head)) (numbersPart index)
+  pub locals-are : n .locals ≡ localCount (mergeCandidates (s .inputs .order) C A P B (w .mode) (w .head))
 
 -- 17 to 19
 pub record StaticsEnd (C A B : List ℕ) (s : Stage) (w : Manner) (r : SymbolsEnd) (table tableAfter places placesAfter steps stepsAfter index : List ℕ) : Type 0 where

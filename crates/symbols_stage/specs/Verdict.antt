@@ -8,19 +8,14 @@ use Rattle.base_answers.specs.declared.Verdict.{Verdict}
 use Rattle.base_answers.specs.Answers.{COMPILED}
 use Rattle.base_answers.specs.Verdicts.{also, findingVerdict}
 use Rattle.blocks_places.specs.Places.{Place}
-use Rattle.statics_walk.specs.Walk.{staticsFault, statics}
-use Rattle.symbols_merge.specs.Candidates.{Candidates}
+use Rattle.statics_walk.specs.Walk.{staticsFault}
 use Rattle.symbols_merge.specs.Listed.{symbolsVerdict}
 use Rattle.symbols_taken.specs.Taken.{takenVerdict}
-use Rattle.symbols_ids.specs.Ids.{candidates}
+use Rattle.symbols_ids.specs.Ids.{mergeCandidates}
 
 module _ (o : ByteOrder) (C A : List ℕ) (P : List Place) (B : List ℕ) (mode head : ℕ) where
-  -- the candidates with C's own statics
-  unfoldable pub stageCandidates : Candidates
-  stageCandidates = candidates o C A P B mode (statics o C mode head)
-
   unfoldable pub listVerdict : Verdict
-  listVerdict = also (findingVerdict STATICS COMPILED (staticsFault o C mode head)) (symbolsVerdict stageCandidates)
+  listVerdict = also (findingVerdict STATICS COMPILED (staticsFault o C mode head)) (symbolsVerdict (mergeCandidates o C A P B mode head))
 
   unfoldable pub symbolStagesVerdict : Verdict
   symbolStagesVerdict = also (takenVerdict o C A P B) listVerdict

@@ -15,11 +15,10 @@ ghost use Rattle.merge_sections.specs.Stages.{StageRead, Movable};
 ghost use Rattle.symbols_merge.specs.Merged.{RESULT-GROUPS, LOCAL-GROUPS};
 ghost use Rattle.symbols_taken.specs.Passed.{TakenPassed};
 ghost use Rattle.symbols_taken.specs.Code.{usedBytes, LateIn, takenIn};
-ghost use Rattle.symbols_rows.specs.Steps.{Holders, verdictIn};
 ghost use Rattle.symbols_holders.specs.Ready.{symbolsIn, HoldersReady};
 ghost use Rattle.symbols_numbers.specs.Numbers.{Tables, HoldersFirst, groupStarts};
 ghost use Rattle.symbols_fill.specs.Fill.{FillReady};
-ghost use Rattle.merge_buffers.specs.Buffers.{BLOCK_BUFFER, PLACE_BUFFER, STEP_BUFFER, blocksPart, idsPart, placesPart, holdersPart, lateStepPart, usedPart, staticsPart, listPart, orderPart, numbersPart, BuffersHeld};
+ghost use Rattle.merge_buffers.specs.Buffers.{BLOCK_BUFFER, PLACE_BUFFER, STEP_BUFFER, INDEX_BUFFER, blocksPart, idsPart, placesPart, lateStepPart, usedPart, staticsPart, listPart, orderPart, numbersPart, BuffersHeld};
 ghost use Rattle.symbols_chain.specs.Chain.{SymbolsNumbered};
 ghost use Rattle.symbols_stage.specs.Stage.{SymbolsTaken, StaticsRead, GlabelsRead, IdsFilledIn, IdsListedIn, IdsHeldIn, IdRooms, OrderLeft, NumbersLeft};
 ghost use Rattle.symbols_stage.specs.End.{countsOf, fillingOf, NumberedEnd, ListEnd, StaticsEnd, StageEnd};
@@ -201,42 +200,18 @@ fn hold_symbols<'a>(
     );
 }
 
-// Refusals 18 and 19, over the m positions of the list.
-fn list_verdict(m: usize, table: &[u8], steps: &[u8], places: &[u8]) -> Verdict
-    requires { ⌜ Holders (idsPart (now table)) (listPart (now steps)) (holdersPart (now places)) m × (BLOCK_BUFFER ≤ length (now table)) × (PLACE_BUFFER ≤ length (now places))
-        × (STEP_BUFFER ≤ length (now steps)) ⌝ }
-    ensures { λ r. ⌜ r ≡ verdictIn (idsPart (now (table .entry))) (listPart (now (steps .entry))) (holdersPart (now (places .entry))) m ⌝ }
-{
-    let rows = merge_buffers::part(table, merge_buffers::ROWS_AT, base_scope::ID_TABLE);
-    let list = merge_buffers::part(steps, merge_buffers::LIST_AT, base_scope::POSITION_TABLE);
-    let holders = merge_buffers::part(
-        places,
-        merge_buffers::HOLDERS_AT,
-        base_scope::POSITION_TABLE,
-    );
-    symbols_rows::symbols_verdict(rows, list, holders, m)
-}
-
 // Leaves the order of the result, over the index.
 fn order_result(
+    rows: &[u8],
+    list: &[u8],
+    holders: &[u8],
     m: usize,
     starts: [usize; symbols_numbers::STARTS],
-    table: &[u8],
-    steps: &[u8],
-    places: &[u8],
     index: &mut [u8],
 )
-    requires { ⌜ Tables (idsPart (now table)) (listPart (now steps)) (holdersPart (now places)) m
-        × (starts ≡ groupStarts (idsPart (now table)) (listPart (now steps)) (holdersPart (now places)) m) × BuffersHeld (now table) (now places) (now steps) (now index) ⌝ }
-    ensures { λ _. ⌜ OrderLeft (idsPart (now (table .entry))) (listPart (now (steps .entry))) (holdersPart (now (places .entry))) m (now (index .exit)) ⌝ }
+    requires { ⌜ Tables (now rows) (now list) (now holders) m × (starts ≡ groupStarts (now rows) (now list) (now holders) m) × (INDEX_BUFFER ≤ length (now index)) ⌝ }
+    ensures { λ _. ⌜ OrderLeft (now (rows .entry)) (now (list .entry)) (now (holders .entry)) m (now (index .exit)) ⌝ }
 {
-    let rows = merge_buffers::part(table, merge_buffers::ROWS_AT, base_scope::ID_TABLE);
-    let list = merge_buffers::part(steps, merge_buffers::LIST_AT, base_scope::POSITION_TABLE);
-    let holders = merge_buffers::part(
-        places,
-        merge_buffers::HOLDERS_AT,
-        base_scope::POSITION_TABLE,
-    );
     let from = merge_buffers::bound(0);
     let to = merge_buffers::bound(merge_buffers::NUMBERS_AT);
     symbols_numbers::order_positions(rows, list, holders, m, starts, &mut index[from..to]);
@@ -244,66 +219,36 @@ fn order_result(
 
 // Leaves the numbers of the ids, behind the order.
 fn number_result(
+    rows: &[u8],
+    list: &[u8],
+    holders: &[u8],
     m: usize,
     starts: [usize; symbols_numbers::STARTS],
-    table: &[u8],
-    steps: &[u8],
-    places: &[u8],
     index: &mut [u8],
 )
-    requires { ⌜ Tables (idsPart (now table)) (listPart (now steps)) (holdersPart (now places)) m × HoldersFirst (listPart (now steps)) (holdersPart (now places)) m
-        × (starts ≡ groupStarts (idsPart (now table)) (listPart (now steps)) (holdersPart (now places)) m) × IdRooms (listPart (now steps)) m
-        × BuffersHeld (now table) (now places) (now steps) (now index) ⌝ }
-    ensures { λ _. ⌜ NumbersLeft (idsPart (now (table .entry))) (listPart (now (steps .entry))) (holdersPart (now (places .entry))) m (now (index .entry)) (now (index .exit)) ⌝ }
+    requires { ⌜ Tables (now rows) (now list) (now holders) m × HoldersFirst (now list) (now holders) m × (starts ≡ groupStarts (now rows) (now list) (now holders) m)
+        × IdRooms (now list) m × (INDEX_BUFFER ≤ length (now index)) ⌝ }
+    ensures { λ _. ⌜ NumbersLeft (now (rows .entry)) (now (list .entry)) (now (holders .entry)) m (now (index .entry)) (now (index .exit)) ⌝ }
 {
-    let rows = merge_buffers::part(table, merge_buffers::ROWS_AT, base_scope::ID_TABLE);
-    let list = merge_buffers::part(steps, merge_buffers::LIST_AT, base_scope::POSITION_TABLE);
-    let holders = merge_buffers::part(
-        places,
-        merge_buffers::HOLDERS_AT,
-        base_scope::POSITION_TABLE,
-    );
     let from = merge_buffers::bound(merge_buffers::NUMBERS_AT);
     let to = merge_buffers::bound(merge_buffers::SPANS_AT);
     symbols_numbers::number_ids(rows, list, holders, m, starts, &mut index[from..to]);
 }
 
-// Where the groups of the result start.
-fn result_starts(
-    m: usize,
-    table: &[u8],
-    steps: &[u8],
-    places: &[u8],
-) -> [usize; symbols_numbers::STARTS]
-    requires { ⌜ Tables (idsPart (now table)) (listPart (now steps)) (holdersPart (now places)) m × (BLOCK_BUFFER ≤ length (now table)) × (PLACE_BUFFER ≤ length (now places))
-        × (STEP_BUFFER ≤ length (now steps)) ⌝ }
-    ensures { λ r. ⌜ r ≡ groupStarts (idsPart (now (table .entry))) (listPart (now (steps .entry))) (holdersPart (now (places .entry))) m ⌝ }
-{
-    let rows = merge_buffers::part(table, merge_buffers::ROWS_AT, base_scope::ID_TABLE);
-    let list = merge_buffers::part(steps, merge_buffers::LIST_AT, base_scope::POSITION_TABLE);
-    let holders = merge_buffers::part(
-        places,
-        merge_buffers::HOLDERS_AT,
-        base_scope::POSITION_TABLE,
-    );
-    symbols_numbers::group_starts(rows, list, holders, m)
-}
-
 // Leaves the order of the result and the numbers of the ids, and answers where the groups of the result start.
 fn number_positions(
+    rows: &[u8],
+    list: &[u8],
+    holders: &[u8],
     m: usize,
-    table: &[u8],
-    steps: &[u8],
-    places: &[u8],
     index: &mut [u8],
 ) -> [usize; symbols_numbers::STARTS]
-    requires { ⌜ Tables (idsPart (now table)) (listPart (now steps)) (holdersPart (now places)) m × HoldersFirst (listPart (now steps)) (holdersPart (now places)) m
-        × IdRooms (listPart (now steps)) m × BuffersHeld (now table) (now places) (now steps) (now index) ⌝ }
-    ensures { λ r. ⌜ SymbolsNumbered (idsPart (now (table .entry))) (listPart (now (steps .entry))) (holdersPart (now (places .entry))) m r (orderPart (now (index .exit))) (numbersPart (now (index .exit))) ⌝ }
+    requires { ⌜ Tables (now rows) (now list) (now holders) m × HoldersFirst (now list) (now holders) m × IdRooms (now list) m × (INDEX_BUFFER ≤ length (now index)) ⌝ }
+    ensures { λ r. ⌜ SymbolsNumbered (now (rows .entry)) (now (list .entry)) (now (holders .entry)) m r (orderPart (now (index .exit))) (numbersPart (now (index .exit))) ⌝ }
 {
-    let starts = result_starts(m, table, steps, places);
-    order_result(m, starts, table, steps, places, index);
-    number_result(m, starts, table, steps, places, index);
+    let starts = symbols_numbers::group_starts(rows, list, holders, m);
+    order_result(rows, list, holders, m, starts, index);
+    number_result(rows, list, holders, m, starts, index);
     starts
 }
 
@@ -334,22 +279,21 @@ fn counts_of(statics: usize, starts: [usize; symbols_numbers::STARTS]) -> Counts
     }
 }
 
-// Refusals 18 and 19, then the numbers.
+// Refusals 18 and 19 over the m positions of the list, then the numbers.
 fn number_list(
     statics: usize,
     m: usize,
-    table: &[u8],
-    steps: &[u8],
-    places: &[u8],
+    rows: &[u8],
+    list: &[u8],
+    holders: &[u8],
     index: &mut [u8],
 ) -> SymbolsEnd
-    requires { ⌜ Tables (idsPart (now table)) (listPart (now steps)) (holdersPart (now places)) m × HoldersFirst (listPart (now steps)) (holdersPart (now places)) m
-        × IdRooms (listPart (now steps)) m × BuffersHeld (now table) (now places) (now steps) (now index) ⌝ }
-    ensures { λ r. ⌜ NumberedEnd (idsPart (now (table .entry))) (listPart (now (steps .entry))) (holdersPart (now (places .entry))) m statics r (now (index .exit)) ⌝ }
+    requires { ⌜ Tables (now rows) (now list) (now holders) m × HoldersFirst (now list) (now holders) m × IdRooms (now list) m × (INDEX_BUFFER ≤ length (now index)) ⌝ }
+    ensures { λ r. ⌜ NumberedEnd (now (rows .entry)) (now (list .entry)) (now (holders .entry)) m statics r (now (index .exit)) ⌝ }
 {
-    match list_verdict(m, table, steps, places) {
+    match symbols_rows::symbols_verdict(rows, list, holders, m) {
         Verdict::Passed => {
-            let starts = number_positions(m, table, steps, places, index);
+            let starts = number_positions(rows, list, holders, m, index);
             SymbolsEnd::Numbered(counts_of(statics, starts))
         }
         Verdict::Refused(number, object, place) => SymbolsEnd::Refused(number, object, place),
@@ -372,8 +316,15 @@ fn merge_list<'a>(
 {
     let m = list_symbols(compiled, assembled, filling, table, steps);
     hold_symbols(compiled, assembled, filling, m, table, steps, places, index);
+    let rows = merge_buffers::part(table, merge_buffers::ROWS_AT, base_scope::ID_TABLE);
+    let list = merge_buffers::part(steps, merge_buffers::LIST_AT, base_scope::POSITION_TABLE);
+    let holders = merge_buffers::part(
+        places,
+        merge_buffers::HOLDERS_AT,
+        base_scope::POSITION_TABLE,
+    );
     let sources = filling.sources;
-    number_list(sources.statics, m, table, steps, places, index)
+    number_list(sources.statics, m, rows, list, holders, index)
 }
 
 // What the rows are filled by, behind the statics.

@@ -1,4 +1,5 @@
 -- The rows and the list, then the holders, then the numbers. Assumes nothing.
+use native.Mathlib.Omega.{arith}
 use denote.Ref.{now}
 use Rattle.symbols_stage.proofs.End.{list-hold, list-number, list-end}
 use borrow.Author.Needs.{needs}
@@ -15,13 +16,31 @@ hold-symbols-requires c κs =
     let pre = c .before .before .before .before .before .before .before .before .before .before .before .before .before .before .before .before .before .pre in
     list-hold (now (args .compiled)) (now (args .assembled)) (args .filling) _ (now (args .table)) _ (now (args .steps)) _ (list-symbols .ensures) (now (args .places)) (now (args .index)) (pre .1)
 
-number-list-requires : tie.Need-number-list-requires
-number-list-requires c κs =
-    let args = c .before .before .before .before .before .before .before .before .before .before .before .before .before .before .before .before .before .before .before .before .before .before .before .before .before .before .before .args in
-    let list-symbols = c .before .before .before .before .before .before .before .before .before .before .before .before .before .before .before .before .before .before .list-symbols in
+part-requires : tie.Need-part-requires
+part-requires c κs = search needs
+
+part-requires-2 : tie.Need-part-requires-2
+part-requires-2 c κs =
+    let list-symbols = c .before .before .before .before .before .before .before .before .before .before .before .before .before .before .before .before .list-symbols in
+    let pre = c .before .before .before .before .before .before .before .before .before .before .before .before .before .before .before .before .before .before .before .before .before .before .before .before .before .pre in
+    omega (arith, list-symbols .ensures .keptSteps .long, pre .1 .steps-long)
+
+part-requires-3 : tie.Need-part-requires-3
+part-requires-3 c κs =
     let hold-symbols = c .before .before .before .before .before .before .before .before .before .hold-symbols in
     let pre = c .before .before .before .before .before .before .before .before .before .before .before .before .before .before .before .before .before .before .before .before .before .before .before .before .before .before .before .pre in
-    list-number (now (args .compiled)) (now (args .assembled)) (args .filling) _ (now (args .table)) _ (now (args .steps)) _ (list-symbols .ensures) (now (args .places)) _ (hold-symbols .ensures) _ (now (args .index)) _ (pre .0) (pre .1) (hold-symbols .kept .1 .1 .1 .1 .1 .1 .1 .0)
+    omega (arith, hold-symbols .ensures .kept .long, pre .1 .places-long)
+
+number-list-requires : tie.Need-number-list-requires
+number-list-requires c κs =
+    let args = c .before .before .before .before .before .before .before .before .before .before .before .before .before .before .before .before .before .before .before .before .before .before .before .before .before .before .before .before .before .before .args in
+    let list-symbols = c .before .before .before .before .before .before .before .before .before .before .before .before .before .before .before .before .before .before .before .before .before .list-symbols in
+    let hold-symbols = c .before .before .before .before .before .before .before .before .before .before .before .before .hold-symbols in
+    let pre = c .before .before .before .before .before .before .before .before .before .before .before .before .before .before .before .before .before .before .before .before .before .before .before .before .before .before .before .before .before .before .pre in
+    let part = c .before .before .before .before .before .before .part in
+    let part2 = c .before .before .before .before .part2 in
+    let part3 = c .before .before .part3 in
+    list-number (now (args .compiled)) (now (args .assembled)) (args .filling) _ (now (args .table)) _ (now (args .steps)) _ (list-symbols .ensures) (now (args .places)) _ (hold-symbols .ensures) _ (now (args .index)) (hold-symbols .last .1 .1 .1 .1 .1 .1 .1 .0) (pre .0) (pre .1) (hold-symbols .kept .1 .1 .1 .1 .1 .1 .1 .0) _ _ _ (part .ensures) (part2 .ensures) (part3 .ensures)
 
 same-length : tie.Need-same-length
 same-length c = search needs
@@ -37,11 +56,14 @@ same-length-4 c = search needs
 
 returns : tie.Need-returns
 returns c =
-    let args = c .before .before .before .before .before .before .before .before .before .before .before .before .before .before .before .before .before .before .before .before .before .before .before .before .before .before .before .before .before .before .args in
-    let list-symbols = c .before .before .before .before .before .before .before .before .before .before .before .before .before .before .before .before .before .before .before .before .before .list-symbols in
-    let hold-symbols = c .before .before .before .before .before .before .before .before .before .before .before .before .hold-symbols in
+    let args = c .before .before .before .before .before .before .before .before .before .before .before .before .before .before .before .before .before .before .before .before .before .before .before .before .before .before .before .before .before .before .before .before .before .args in
+    let list-symbols = c .before .before .before .before .before .before .before .before .before .before .before .before .before .before .before .before .before .before .before .before .before .before .before .before .list-symbols in
+    let hold-symbols = c .before .before .before .before .before .before .before .before .before .before .before .before .before .before .before .hold-symbols in
+    let part = c .before .before .before .before .before .before .before .before .before .part in
+    let part2 = c .before .before .before .before .before .before .before .part2 in
+    let part3 = c .before .before .before .before .before .part3 in
     let number-list = c .before .before .number-list in
-    list-end (now (args .compiled)) (now (args .assembled)) (args .filling) _ (now (args .table)) _ (now (args .steps)) _ (list-symbols .ensures) (now (args .places)) _ (hold-symbols .ensures) _ _ (number-list .ensures)
+    list-end (now (args .compiled)) (now (args .assembled)) (args .filling) _ (now (args .table)) _ (now (args .steps)) _ (list-symbols .ensures) (now (args .places)) _ (hold-symbols .ensures) _ _ _ _ _ (part .ensures) (part2 .ensures) (part3 .ensures) (number-list .ensures)
 
 pub merge-list-spec : {M : Type 1} → statement M
 merge-list-spec =
@@ -49,6 +71,9 @@ merge-list-spec =
     (tie.spec
     list-symbols-requires
     hold-symbols-requires
+    part-requires
+    part-requires-2
+    part-requires-3
     number-list-requires
     same-length
     same-length-2

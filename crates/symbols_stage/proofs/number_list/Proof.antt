@@ -4,8 +4,10 @@ use borrow.Author.Needs.{needs}
 use Rattle.symbols_stage.proofs.number_list.Statement.{statement}
 use Rattle.symbols_stage.proofs.number_list.Tie as tie
 
-list-verdict-requires : tie.Need-list-verdict-requires
-list-verdict-requires c κs = search needs
+symbols-verdict-requires : tie.Need-symbols-verdict-requires
+symbols-verdict-requires c κs =
+    let pre = c .before .before .before .before .pre in
+    pre .0 .held
 
 enum-told : tie.Need-enum-told
 enum-told c = search needs
@@ -29,24 +31,24 @@ same-length c = search needs
 returns : tie.Need-returns
 returns c =
     let args = c .before .before .before .before .before .before .before .before .before .before .before .before .args in
-    let list-verdict = c .before .before .before .before .before .before .before .list-verdict in
+    let symbols-verdict = c .before .before .before .before .before .before .before .symbols-verdict in
     let enum-told = c .before .before .before .before .before .enum-told in
     let number-positions = c .before .before .before .number-positions in
     let counts-of = c .counts-of in
-    end-numbered _ _ _ (args .m) (args .statics) _ (list-verdict .ensures) _ (enum-told .given .1) _ (number-positions .ensures) _ (counts-of .ensures)
+    end-numbered _ _ _ (args .m) (args .statics) _ (symbols-verdict .ensures) _ (enum-told .given .1) _ (number-positions .ensures) _ (counts-of .ensures)
 
 returns-2 : tie.Need-returns-2
 returns-2 c =
     let args = c .before .before .before .before .before .before .before .before .args in
-    let list-verdict = c .before .before .before .list-verdict in
+    let symbols-verdict = c .before .before .before .symbols-verdict in
     let number = c .before .number in
-    end-refused _ _ _ (args .m) (args .statics) _ (list-verdict .ensures) _ _ _ _ (number .given .1)
+    end-refused _ _ _ (args .m) (args .statics) _ (symbols-verdict .ensures) _ _ _ _ (number .given .1)
 
 pub number-list-spec : {M : Type 1} → statement M
 number-list-spec =
     tie.close
     (tie.spec
-    list-verdict-requires
+    symbols-verdict-requires
     enum-told
     number-positions-requires
     counts-of-requires

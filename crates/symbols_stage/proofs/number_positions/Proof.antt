@@ -4,8 +4,8 @@ use borrow.Author.Needs.{needs}
 use Rattle.symbols_stage.proofs.number_positions.Statement.{statement}
 use Rattle.symbols_stage.proofs.number_positions.Tie as tie
 
-result-starts-requires : tie.Need-result-starts-requires
-result-starts-requires c κs = search needs
+group-starts-requires : tie.Need-group-starts-requires
+group-starts-requires c κs = search needs
 
 order-result-requires : tie.Need-order-result-requires
 order-result-requires c κs = search needs
@@ -18,16 +18,16 @@ same-length c = search needs
 
 returns : tie.Need-returns
 returns c =
-    let result-starts = c .before .before .before .before .before .before .before .before .result-starts in
+    let group-starts = c .before .before .before .before .before .before .before .before .group-starts in
     let order-result = c .before .before .before .before .before .before .order-result in
     let number-result = c .before .before .number-result in
-    numbered-of _ _ _ _ _ _ _ (result-starts .ensures) (order-result .ensures) (number-result .ensures)
+    numbered-of _ _ _ _ _ _ _ (group-starts .ensures) (order-result .ensures) (number-result .ensures)
 
 pub number-positions-spec : {M : Type 1} → statement M
 number-positions-spec =
     tie.close
     (tie.spec
-    result-starts-requires
+    group-starts-requires
     order-result-requires
     number-result-requires
     same-length

@@ -1,19 +1,9 @@
 -- The numbers are written behind the order, which stays. Assumes nothing.
 use denote.Ref.{now}
 use Rattle.symbols_stage.proofs.Stage.{number-room, numbers-of}
-use Rattle.merge_buffers.specs.Buffers.{listPart}
 use borrow.Author.Needs.{needs}
 use Rattle.symbols_stage.proofs.number_result.Statement.{statement}
 use Rattle.symbols_stage.proofs.number_result.Tie as tie
-
-part-requires : tie.Need-part-requires
-part-requires c κs = search needs
-
-part-requires-2 : tie.Need-part-requires-2
-part-requires-2 c κs = search needs
-
-part-requires-3 : tie.Need-part-requires-3
-part-requires-3 c κs = search needs
 
 bound-requires : tie.Need-bound-requires
 bound-requires c κs = search needs
@@ -32,37 +22,28 @@ part-number-ids-end c = search needs
 
 number-ids-requires : tie.Need-number-ids-requires
 number-ids-requires c κs =
-    let part = c .before .before .before .before .before .part in
-    let part2 = c .before .before .before .before .part2 in
-    let part3 = c .before .before .before .part3 in
-    let pre = c .before .before .before .before .before .before .before .before .before .before .pre in
-    let args = c .before .before .before .before .before .before .before .before .before .before .args in
+    let pre = c .before .before .before .before .before .before .before .pre in
+    let args = c .before .before .before .before .before .before .before .args in
     let bound = c .before .before .bound in
     let bound2 = c .before .bound2 in
-    (rw (part .ensures, part2 .ensures, part3 .ensures) (pre .0), rw (part2 .ensures, part3 .ensures) (pre .1), rw (part .ensures, part2 .ensures, part3 .ensures) (pre .2), rw (part2 .ensures) (number-room (now (args .table)) (listPart (now (args .steps))) (now (args .places)) (args .m) _ _ (now (args .index)) (pre .4 .index-long) (bound .ensures) (bound2 .ensures) (pre .3)))
+    (pre .0, pre .1, pre .2, number-room (now (args .rows)) (now (args .list)) (now (args .holders)) (args .m) _ _ (now (args .index)) (pre .4) (bound .ensures) (bound2 .ensures) (pre .3))
 
 same-length : tie.Need-same-length
 same-length c = search needs
 
 returns : tie.Need-returns
 returns c =
-    let args = c .before .before .before .before .before .before .before .before .before .before .before .before .before .args in
-    let pre = c .before .before .before .before .before .before .before .before .before .before .before .before .before .pre in
+    let args = c .before .before .before .before .before .before .before .before .before .before .args in
+    let pre = c .before .before .before .before .before .before .before .before .before .before .pre in
     let bound = c .before .before .before .before .before .bound in
     let bound2 = c .before .before .before .before .bound2 in
-    let part = c .before .before .before .before .before .before .before .before .part in
-    let part2 = c .before .before .before .before .before .before .before .part2 in
-    let part3 = c .before .before .before .before .before .before .part3 in
     let number-ids = c .before .before .number-ids in
-    numbers-of _ _ _ (args .m) _ _ (now (args .index)) (pre .4 .index-long) (bound .ensures) (bound2 .ensures) _ _ _ _ (part .ensures) (part2 .ensures) (part3 .ensures) (number-ids .kept .1 .1 .1 .1 .1 .0) (number-ids .ensures)
+    numbers-of (now (args .rows)) (now (args .list)) (now (args .holders)) (args .m) _ _ (now (args .index)) (pre .4) (bound .ensures) (bound2 .ensures) _ (number-ids .kept .1 .1 .1 .1 .1 .0) (number-ids .ensures)
 
 pub number-result-spec : {M : Type 1} → statement M
 number-result-spec =
     tie.close
     (tie.spec
-    part-requires
-    part-requires-2
-    part-requires-3
     bound-requires
     bound-requires-2
     sub-number-ids

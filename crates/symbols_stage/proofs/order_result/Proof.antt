@@ -5,15 +5,6 @@ use borrow.Author.Needs.{needs}
 use Rattle.symbols_stage.proofs.order_result.Statement.{statement}
 use Rattle.symbols_stage.proofs.order_result.Tie as tie
 
-part-requires : tie.Need-part-requires
-part-requires c κs = search needs
-
-part-requires-2 : tie.Need-part-requires-2
-part-requires-2 c κs = search needs
-
-part-requires-3 : tie.Need-part-requires-3
-part-requires-3 c κs = search needs
-
 bound-requires : tie.Need-bound-requires
 bound-requires c κs = search needs
 
@@ -31,37 +22,28 @@ part-order-positions-end c = search needs
 
 order-positions-requires : tie.Need-order-positions-requires
 order-positions-requires c κs =
-    let part = c .before .before .before .before .before .part in
-    let part2 = c .before .before .before .before .part2 in
-    let part3 = c .before .before .before .part3 in
-    let pre = c .before .before .before .before .before .before .before .before .before .before .pre in
-    let args = c .before .before .before .before .before .before .before .before .before .before .args in
+    let pre = c .before .before .before .before .before .before .before .pre in
+    let args = c .before .before .before .before .before .before .before .args in
     let bound = c .before .before .bound in
     let bound2 = c .before .bound2 in
-    (rw (part .ensures, part2 .ensures, part3 .ensures) (pre .0), rw (part .ensures, part2 .ensures, part3 .ensures) (pre .1), order-room _ _ _ (args .m) _ _ (now (args .index)) (pre .2 .index-long) (bound .ensures) (bound2 .ensures) (pre .0))
+    (pre .0, pre .1, order-room (now (args .rows)) (now (args .list)) (now (args .holders)) (args .m) _ _ (now (args .index)) (pre .2) (bound .ensures) (bound2 .ensures) (pre .0))
 
 same-length : tie.Need-same-length
 same-length c = search needs
 
 returns : tie.Need-returns
 returns c =
-    let args = c .before .before .before .before .before .before .before .before .before .before .before .before .before .args in
-    let pre = c .before .before .before .before .before .before .before .before .before .before .before .before .before .pre in
+    let args = c .before .before .before .before .before .before .before .before .before .before .args in
+    let pre = c .before .before .before .before .before .before .before .before .before .before .pre in
     let bound = c .before .before .before .before .before .bound in
     let bound2 = c .before .before .before .before .bound2 in
-    let part = c .before .before .before .before .before .before .before .before .part in
-    let part2 = c .before .before .before .before .before .before .before .part2 in
-    let part3 = c .before .before .before .before .before .before .part3 in
     let order-positions = c .before .before .order-positions in
-    order-of _ _ _ (args .m) _ _ (now (args .index)) (pre .2 .index-long) (bound .ensures) (bound2 .ensures) _ _ _ _ (part .ensures) (part2 .ensures) (part3 .ensures) (order-positions .kept .1 .1 .1 .1 .1 .0) (order-positions .ensures)
+    order-of (now (args .rows)) (now (args .list)) (now (args .holders)) (args .m) _ _ (now (args .index)) (pre .2) (bound .ensures) (bound2 .ensures) _ (order-positions .kept .1 .1 .1 .1 .1 .0) (order-positions .ensures)
 
 pub order-result-spec : {M : Type 1} → statement M
 order-result-spec =
     tie.close
     (tie.spec
-    part-requires
-    part-requires-2
-    part-requires-3
     bound-requires
     bound-requires-2
     sub-order-positions

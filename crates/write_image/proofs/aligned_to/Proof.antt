@@ -24,7 +24,7 @@ mul-result : tie.Need-mul-result
 mul-result c =
     let a = c .before .args in
     let n = c .if1 .left in
-    omega (arith, div-mul-le-self (a .end + (a .align - 1)) (a .align), c .before .pre .0, c .before .pre .1)
+    omega (arith, div-mul-le-self (a .end + (a .align - 1)) (a .align), c .before .pre)
 
 returns-2 : tie.Need-returns-2
 returns-2 c =
