@@ -17,6 +17,10 @@ use Rattle.elf_relocations.specs.Relocations.{isRela, isTable}
 use Rattle.merge_kept.specs.Kept.{kept}
 use Rattle.symbols_taken.specs.Used.{codeOf, isSourceTable}
 
+-- its number
+abbrev pub CLASH : ℕ
+CLASH = 10
+
 module _ (o : ByteOrder) (C : List ℕ) where
   -- "a non-empty relocation table for a section other than its first .text, .data, .rodata or .bss"
   unfoldable pub isStale : ℕ → Bool

@@ -12,6 +12,9 @@ use base_fields::ByteOrder;
 use base_scope::Finding;
 use elf_check::View;
 
+// Its number.
+pub const CLASH: u32 = 10;
+
 // Whether section i is a table with entries for another section than those of the four codes.
 fn is_stale(order: ByteOrder, compiled: &[u8], view: View, i: usize) -> bool
     requires { ⌜ Viewed order (now compiled) view × (i < sectionCount order (now compiled)) ⌝ }

@@ -49,7 +49,8 @@ use Rattle.symbols_stage.specs.declared.Counts.{Counts}
 use Rattle.symbols_stage.specs.declared.SymbolsEnd.{SymbolsEnd}
 use Rattle.symbols_stage.specs.declared.SymbolsEnd.the-variants.{Numbered, Refused as Unnumbered}
 use Rattle.symbols_stage.specs.End.{endVerdict}
-use Rattle.splice_stages.specs.Verdict.{spliceBounds, isPath, spliceBytes, lateVerdict, stagesVerdict, symbolsAnswer, lateAnswer, stagesAnswer, spliceVerdict, StagesPassed}
+use Rattle.carry_clash.specs.Clash.{CLASH, clashFinding}
+use Rattle.splice_stages.specs.Verdict.{spliceBounds, isPath, spliceBytes, lateVerdict, stagesVerdict, carriedVerdict, symbolsAnswer, lateAnswer, stagesAnswer, carriedAnswer, spliceVerdict, StagesPassed}
 use Rattle.splice_stages.proofs.Limits.{splice-limits}
 
 fault-high : (o : ByteOrder) (P : List Place) (B R : List ℕ) → lateStepFault o P B R ≤ blockCount B
@@ -83,6 +84,21 @@ module _ (o : ByteOrder) (C A : List ℕ) (P : List Place) (B : List ℕ) (mode 
     unfolding lateAnswer symbolsAnswer
     answer-moved t = sym (ap (λ (v : Verdict). ifPassed v (roomFor (spliceBytes o C A P B mode head) room)) (late-by ∙ also-passed _ _ (finding-clear LATE_STEP COMPILED f t)))
 
+  -- ---- 10
+
+  module _ (flag : ℕ) (f : Finding) (is : f ≡ clashFinding o C A flag) where
+    clash-by : carriedVerdict o C A P B mode head flag ≡ also (findingVerdict CLASH COMPILED f) (stagesVerdict o C A P B mode head)
+    unfolding carriedVerdict
+    clash-by = rw is
+
+    pub answer-10 : (i : ℕ) → f ≡ At i → refused CLASH COMPILED i ≡ carriedAnswer o C A P B mode head flag room
+    unfolding carriedAnswer
+    answer-10 i t = sym (if-refused _ _ CLASH COMPILED i (clash-by ∙ also-refused _ _ CLASH COMPILED i (finding-at CLASH COMPILED f i t)))
+
+    pub answer-unclashed : f ≡ Clear → stagesAnswer o C A P B mode head room ≡ carriedAnswer o C A P B mode head flag room
+    unfolding carriedAnswer stagesAnswer
+    answer-unclashed t = sym (ap (λ (v : Verdict). ifPassed v (roomFor (spliceBytes o C A P B mode head) room)) (clash-by ∙ also-passed _ _ (finding-clear CLASH COMPILED f t)))
+
   -- ---- 11 to 13
 
   module _ (r : LinedUp) (w : LinesUp o C A P B r) where
@@ -109,40 +125,40 @@ stage-read C A B i table places w r u s e = record {
 
 -- ---- the whole call
 
-module _ (C A B path : List ℕ) (mode room table places steps index : ℕ) where
+module _ (C A B path : List ℕ) (flag mode room table places steps index : ℕ) where
   abbrev broken : Bool
-  broken = overLimits (spliceBounds (length C) (length A) (length B) mode table places steps index) || not (isPath path)
+  broken = overLimits (spliceBounds (length C) (length A) (length B) flag mode table places steps index) || not (isPath path)
 
-  pub verdict-over : broken ≡ true → refused LIMITS NONE 0 ≡ spliceVerdict C A B path mode room table places steps index
+  pub verdict-over : broken ≡ true → refused LIMITS NONE 0 ≡ spliceVerdict C A B path flag mode room table places steps index
   unfolding spliceVerdict
   verdict-over t = sym (if-refused _ _ LIMITS NONE 0 (also-refused _ _ LIMITS NONE 0 (limit-broken _ t)))
 
   module _ (kept : broken ≡ false) (r : Opened) (is : openedVerdict r ≡ inputsVerdict C A B) where
-    pub verdict-refused : (n o p : ℕ) → r ≡ Shut n o p → refused n o p ≡ spliceVerdict C A B path mode room table places steps index
+    pub verdict-refused : (n o p : ℕ) → r ≡ Shut n o p → refused n o p ≡ spliceVerdict C A B path flag mode room table places steps index
     unfolding spliceVerdict openedVerdict
     verdict-refused n o p e = sym (if-refused _ _ n o p (also-passed _ _ (limit-kept _ kept) ∙ sym is ∙ ap openedVerdict e))
 
     pub verdict-stages : (n : ℕ) → r ≡ Blocks n → (i : Inputs) → i ≡ inputsOf C A n → (P : List Place) → P ≡ placesOf (i .order) C B → (head : ℕ) → head ≡ length (nameHead mode path)
-        → stagesAnswer (i .order) C A P B mode head room ≡ spliceVerdict C A B path mode room table places steps index
+        → carriedAnswer (i .order) C A P B mode head flag room ≡ spliceVerdict C A B path flag mode room table places steps index
     unfolding spliceVerdict openedVerdict inputsOf
     verdict-stages n e i q P at head h =
         let o : i .order ≡ orderOf C = ap (λ (x : Inputs). x .order) q in
-        ap (λ (x : List Place). stagesAnswer (i .order) C A x B mode head room) (at ∙ ap (λ (x : ByteOrder). placesOf x C B) o)
-        ∙ ap (λ (x : ByteOrder). stagesAnswer x C A (placesOf (orderOf C) C B) B mode head room) o
-        ∙ ap (λ (x : ℕ). stagesAnswer (orderOf C) C A (placesOf (orderOf C) C B) B mode x room) h
+        ap (λ (x : List Place). carriedAnswer (i .order) C A x B mode head flag room) (at ∙ ap (λ (x : ByteOrder). placesOf x C B) o)
+        ∙ ap (λ (x : ByteOrder). carriedAnswer x C A (placesOf (orderOf C) C B) B mode head flag room) o
+        ∙ ap (λ (x : ℕ). carriedAnswer (orderOf C) C A (placesOf (orderOf C) C B) B mode x flag room) h
         ∙ sym (if-passed _ _ (also-passed _ _ (limit-kept _ kept) ∙ sym is ∙ ap openedVerdict e))
 
   -- ---- what an accepted answer says
 
-  module _ (O : List ℕ) (e : spliceVerdict C A B path mode room table places steps index ≡ accepted O) where
+  module _ (O : List ℕ) (e : spliceVerdict C A B path flag mode room table places steps index ≡ accepted O) where
     abbrev P : List Place
     P = placesOf (orderOf C) C B
 
     abbrev head : ℕ
     head = length (nameHead mode path)
 
-    tests : (broken ≡ false) × (inputsVerdict C A B ≡ Passed) × (stagesVerdict (orderOf C) C A P B mode head ≡ Passed) × (O ≡ spliceBytes (orderOf C) C A P B mode head)
-    unfolding spliceVerdict stagesAnswer
+    tests : (broken ≡ false) × (inputsVerdict C A B ≡ Passed) × (carriedVerdict (orderOf C) C A P B mode head flag ≡ Passed) × (O ≡ spliceBytes (orderOf C) C A P B mode head)
+    unfolding spliceVerdict carriedAnswer
     tests =
         let a = if-accepted _ _ O e in
         let b = also-parts _ _ (a .0) in
@@ -150,33 +166,36 @@ module _ (C A B path : List ℕ) (mode room table places steps index : ℕ) wher
         let d = room-accepted _ O room (c .1) in
         (limit-passed _ (b .0), b .1, c .0, d .0)
 
-    stages : (lineUpVerdict (orderOf C) C A P B ≡ Passed) × (lateFinding (orderOf C) C A P B ≡ Clear) × (symbolStagesVerdict (orderOf C) C A P B mode head ≡ Passed)
-    unfolding stagesVerdict lateVerdict
+    stages : (clashFinding (orderOf C) C A flag ≡ Clear) × (lineUpVerdict (orderOf C) C A P B ≡ Passed) × (lateFinding (orderOf C) C A P B ≡ Clear) × (symbolStagesVerdict (orderOf C) C A P B mode head ≡ Passed)
+    unfolding carriedVerdict stagesVerdict lateVerdict
     stages =
-        let a = also-parts _ _ (tests .2) in
+        let x = also-parts _ _ (tests .2) in
+        let a = also-parts _ _ (x .1) in
         let b = also-parts _ _ (a .1) in
-        (a .0, finding-passed LATE_STEP COMPILED _ (b .0), b .1)
+        (finding-passed CLASH COMPILED _ (x .0), a .0, finding-passed LATE_STEP COMPILED _ (b .0), b .1)
 
     no-fault : hasLateStep P B ≡ true
         → lateStepFault (orderOf C) P B (copied (spansOf P B LATE_TARGET) (codedContents (orderOf C) C LATE_TARGET) (codedContents (orderOf C) A LATE_TARGET)) ≡ blockCount B
     unfolding lateFinding stepFinding
     no-fault t =
-        let f = rw t at (stages .1) in
+        let f = rw t at (stages .2) in
         omega (arith, found-clear (blockCount B) _ f, fault-high (orderOf C) P B (copied (spansOf P B LATE_TARGET) (codedContents (orderOf C) C LATE_TARGET) (codedContents (orderOf C) A LATE_TARGET)))
 
-    pub splice-accepted : StagesPassed C A B path mode × (O ≡ spliceBytes (orderOf C) C A P B mode head)
+    pub splice-accepted : StagesPassed C A B path flag mode × (O ≡ spliceBytes (orderOf C) C A P B mode head)
     splice-accepted =
-        let l = splice-limits (length C) (length A) (length B) mode table places steps index path (tests .0) in (
+        let l = splice-limits (length C) (length A) (length B) flag mode table places steps index path (tests .0) in (
           record {
             compiledLimit = l .compiled-limit;
             assembledLimit = l .assembled-limit;
             blocksLimit = l .blocks-limit;
+            flagLimit = l .flag-limit;
             modeLimit = l .mode-limit;
             path-is = l .path-is;
             inputs = inputs-passed C A B (tests .1);
-            agrees = agrees-of (orderOf C) C A P B (stages .0);
+            unclashed = stages .0;
+            agrees = agrees-of (orderOf C) C A P B (stages .1);
             moved = no-fault;
-            symbols = stages .2;
+            symbols = stages .3;
           },
           tests .3,
         )

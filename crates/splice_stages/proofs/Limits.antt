@@ -48,10 +48,11 @@ module _ (p : List ℕ) where
 
 -- ---- all of them
 
-pub record SpliceLimits (compiled assembled blocks mode : ℕ) (table places steps index : ℕ) (path : List ℕ) : Type 0 where
+pub record SpliceLimits (compiled assembled blocks flag mode : ℕ) (table places steps index : ℕ) (path : List ℕ) : Type 0 where
   pub compiled-limit : compiled ≤ FILE_LIMIT
   pub assembled-limit : assembled ≤ FILE_LIMIT
   pub blocks-limit : blocks ≤ FILE_LIMIT
+  pub flag-limit : flag ≤ 1
   pub mode-limit : mode ≤ 3
   pub table-size : BLOCK_BUFFER ≤ table
   pub places-size : PLACE_BUFFER ≤ places
@@ -59,11 +60,11 @@ pub record SpliceLimits (compiled assembled blocks mode : ℕ) (table places ste
   pub index-size : INDEX_BUFFER ≤ index
   pub path-is : isPath path ≡ true
 
-pub splice-limits : (compiled assembled blocks mode table places steps index : ℕ) (path : List ℕ)
-    → (overLimits (spliceBounds compiled assembled blocks mode table places steps index) || not (isPath path)) ≡ false
-    → SpliceLimits compiled assembled blocks mode table places steps index path
+pub splice-limits : (compiled assembled blocks flag mode table places steps index : ℕ) (path : List ℕ)
+    → (overLimits (spliceBounds compiled assembled blocks flag mode table places steps index) || not (isPath path)) ≡ false
+    → SpliceLimits compiled assembled blocks flag mode table places steps index path
 unfolding spliceBounds Kept
-splice-limits compiled assembled blocks mode table places steps index path x =
+splice-limits compiled assembled blocks flag mode table places steps index path x =
     let e = or-parts _ _ x in
     let a = in-limits _ _ (e .0) in
     let b = in-limits _ _ (a .1) in
@@ -73,14 +74,16 @@ splice-limits compiled assembled blocks mode table places steps index path x =
     let g = in-limits _ _ (f .1) in
     let h = in-limits _ _ (g .1) in
     let i = in-limits _ _ (h .1) in
+    let j = in-limits _ _ (i .1) in
     record {
       compiled-limit = a .0;
       assembled-limit = b .0;
       blocks-limit = c .0;
-      mode-limit = d .0;
-      table-size = f .0;
-      places-size = g .0;
-      steps-size = h .0;
-      index-size = i .0;
+      flag-limit = d .0;
+      mode-limit = f .0;
+      table-size = g .0;
+      places-size = h .0;
+      steps-size = i .0;
+      index-size = j .0;
       path-is = not-false (isPath path) (e .1);
     }

@@ -1,5 +1,5 @@
--- The stages of the merge up to its symbols, whole (document 01, "Order"): 1; the inputs, C by 2 to 6, 7, blocks by 8 and 9, A by 2 to 6; 11, 12 and 13; 14; 15 to 19; then 21.
--- Refusals 10 and 20 come with the relocations. The result is what is written over C's .text, .data, .rodata and .reginfo, one behind the other; then sh_info of the symbol
+-- The stages of the merge up to its symbols, whole (document 01, "Order"): 1; the inputs, C by 2 to 6, 7, blocks by 8 and 9, A by 2 to 6; 10; 11, 12 and 13; 14; 15 to 19; then 21.
+-- Refusal 20 comes with the relocations. The result is what is written over C's .text, .data, .rodata and .reginfo, one behind the other; then sh_info of the symbol
 -- table of the result as a word, and that table.
 use Prim.Native.Nat.{ℕ, _≤_}
 use mathlib.Core.Path.{_≡_}
@@ -12,6 +12,7 @@ use Rattle.base_fields.specs.declared.ByteOrder.{ByteOrder}
 use Rattle.base_fields.specs.Numbers.{encoded}
 use Rattle.base_scope.specs.Codes.{TEXT, DATA, LATE_TARGET}
 use Rattle.base_scope.specs.Limits.{FILE_LIMIT, PATH_LIMIT, Bound, atMost, atLeast, overLimits}
+use Rattle.base_scope.specs.declared.Finding.the-variants.{Clear}
 use Rattle.base_scope.specs.Refusals.{LATE_STEP}
 use Rattle.base_answers.specs.declared.Verdict.{Verdict}
 use Rattle.base_answers.specs.declared.Verdict.the-variants.{Passed}
@@ -35,13 +36,15 @@ use Rattle.symbols_merge.specs.Merged.{localCount}
 use Rattle.symbols_ids.specs.Table.{resultSymbols}
 use Rattle.symbols_ids.specs.Ids.{mergeCandidates}
 use Rattle.symbols_stage.specs.Verdict.{symbolStagesVerdict}
+use Rattle.carry_clash.specs.Clash.{CLASH, clashFinding}
 
--- refusal 1 of this call: the lengths of C, A and the block file, the mode, and the lengths of the working buffers
-unfoldable pub spliceBounds : ℕ → ℕ → ℕ → ℕ → ℕ → ℕ → ℕ → ℕ → List Bound
-spliceBounds compiled assembled blocks mode table places steps index =
+-- refusal 1 of this call: the lengths of C, A and the block file, the drop flag, the mode, and the lengths of the working buffers
+unfoldable pub spliceBounds : ℕ → ℕ → ℕ → ℕ → ℕ → ℕ → ℕ → ℕ → ℕ → List Bound
+spliceBounds compiled assembled blocks flag mode table places steps index =
     atMost FILE_LIMIT compiled
     ∷ atMost FILE_LIMIT assembled
     ∷ atMost FILE_LIMIT blocks
+    ∷ atMost 1 flag
     ∷ atMost 3 mode
     ∷ atLeast BLOCK_BUFFER table
     ∷ atLeast PLACE_BUFFER places
@@ -75,6 +78,10 @@ module _ (o : ByteOrder) (C A : List ℕ) (P : List Place) (B : List ℕ) where
     unfoldable pub stagesVerdict : Verdict
     stagesVerdict = also (lineUpVerdict o C A P B) lateVerdict
 
+    -- 10 to 19: C's trailing debug sections are dropped by the flag
+    unfoldable pub carriedVerdict : ℕ → Verdict
+    carriedVerdict flag = also (findingVerdict CLASH COMPILED (clashFinding o C A flag)) stagesVerdict
+
     -- and 21: room is the output's length
     unfoldable pub symbolsAnswer : ℕ → Answer
     symbolsAnswer room = ifPassed (symbolStagesVerdict o C A P B mode head) (roomFor spliceBytes room)
@@ -85,23 +92,28 @@ module _ (o : ByteOrder) (C A : List ℕ) (P : List Place) (B : List ℕ) where
     unfoldable pub stagesAnswer : ℕ → Answer
     stagesAnswer room = ifPassed stagesVerdict (roomFor spliceBytes room)
 
-module _ (C A B path : List ℕ) (mode : ℕ) where
+    unfoldable pub carriedAnswer : ℕ → ℕ → Answer
+    carriedAnswer flag room = ifPassed (carriedVerdict flag) (roomFor spliceBytes room)
+
+module _ (C A B path : List ℕ) (flag mode : ℕ) where
   -- the whole call: room is the output's length, the others those of the working buffers
   unfoldable pub spliceVerdict : ℕ → ℕ → ℕ → ℕ → ℕ → Answer
   spliceVerdict room table places steps index =
       ifPassed
-      (also (limitVerdict (overLimits (spliceBounds (length C) (length A) (length B) mode table places steps index) || not (isPath path)))
+      (also (limitVerdict (overLimits (spliceBounds (length C) (length A) (length B) flag mode table places steps index) || not (isPath path)))
       (inputsVerdict C A B))
-      (stagesAnswer (orderOf C) C A (placesOf (orderOf C) C B) B mode (length (nameHead mode path)) room)
+      (carriedAnswer (orderOf C) C A (placesOf (orderOf C) C B) B mode (length (nameHead mode path)) flag room)
 
   -- what an accepted answer says of the inputs alone (proofs/Accepted.antt, `splice-accepted`): no buffer is spoken of
   pub record StagesPassed : Type 0 where
     pub compiledLimit : length C ≤ FILE_LIMIT
     pub assembledLimit : length A ≤ FILE_LIMIT
     pub blocksLimit : length B ≤ FILE_LIMIT
+    pub flagLimit : flag ≤ 1
     pub modeLimit : mode ≤ 3
     pub path-is : isPath path ≡ true
     pub inputs : InputsPassed C A B
+    pub unclashed : clashFinding (orderOf C) C A flag ≡ Clear
     pub agrees : Agrees (orderOf C) C A (placesOf (orderOf C) C B) B
     pub moved : hasLateStep (placesOf (orderOf C) C B) B ≡ true
         → lateStepFault (orderOf C) (placesOf (orderOf C) C B) B

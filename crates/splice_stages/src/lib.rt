@@ -16,7 +16,7 @@ ghost use Rattle.merge_buffers.specs.Buffers.{BLOCK_BUFFER, PLACE_BUFFER, STEP_
 ghost use Rattle.merge_inputs.specs.Taken.{Took, InputsRead};
 ghost use Rattle.merge_line_up.specs.Answer.{LinesUp};
 ghost use Rattle.merge_sections.specs.Stages.{StageRead, Movable, Searchable, Searched};
-ghost use Rattle.splice_stages.specs.Verdict.{isPathByte, isPath, spliceBounds, sectionPieces, stagesAnswer, lateAnswer, symbolsAnswer, spliceVerdict};
+ghost use Rattle.splice_stages.specs.Verdict.{isPathByte, isPath, spliceBounds, sectionPieces, carriedAnswer, stagesAnswer, lateAnswer, symbolsAnswer, spliceVerdict};
 ghost use Rattle.splice_stages.specs.Call.{spliceLength, stageIn, tableIn, resultIn, TableReady, ResultReady, Spliced};
 use base_answers::Outcome;
 use base_fields::ByteOrder;
@@ -56,18 +56,19 @@ fn is_path(path: &[u8]) -> bool
     true
 }
 
-// Refusal 1, by the lengths of the inputs and of the working buffers, and the mode.
+// Refusal 1, by the lengths of the inputs and of the working buffers, the flag and the mode.
 fn breaks_splice_bounds(
     compiled: usize,
     assembled: usize,
     blocks: usize,
+    flag: u32,
     mode: u32,
     table: usize,
     places: usize,
     steps: usize,
     index: usize,
 ) -> bool
-    ensures { λ r. ⌜ r ≡ overLimits (spliceBounds compiled assembled blocks mode table places steps index) ⌝ }
+    ensures { λ r. ⌜ r ≡ overLimits (spliceBounds compiled assembled blocks flag mode table places steps index) ⌝ }
 {
     if compiled > base_scope::FILE_LIMIT {
         return true;
@@ -76,6 +77,9 @@ fn breaks_splice_bounds(
         return true;
     }
     if blocks > base_scope::FILE_LIMIT {
+        return true;
+    }
+    if flag > 1 {
         return true;
     }
     if mode > 3 {
@@ -489,6 +493,53 @@ fn splice_stages<'a>(
     }
 }
 
+// 10; then the line-up.
+fn splice_carried<'a>(
+    compiled: &'a [u8],
+    assembled: &'a [u8],
+    file: &[u8],
+    inputs: Inputs,
+    flag: u32,
+    manner: Manner,
+    out: &mut [u8],
+    table: &mut [u8],
+    places: &mut [u8],
+    steps: &mut [u8],
+    index: &mut [u8],
+) -> Outcome
+    requires { ⌜ InputsRead (now compiled) (now assembled) (now file) inputs (blocksPart (now table)) (placesPart (now places)) × (manner .head ≤ HEAD_LIMIT)
+        × BuffersHeld (now table) (now places) (now steps) (now index) ⌝ }
+    ensures { λ r. ⌜ Answered (carriedAnswer (inputs .order) (now (compiled .entry)) (now (assembled .entry)) (placesIn (placesPart (now (places .entry))) (lineCount (now (file .entry)))) (now (file .entry)) (manner .mode) (manner .head) flag (length (now (out .entry)))) r (now (out .entry)) (now (out .exit)) ⌝ }
+{
+    let order = inputs.order;
+    match carry_clash::clash_fault(
+        order,
+        compiled,
+        assembled,
+        inputs.compiled,
+        inputs.assembled,
+        flag,
+    ) {
+        Finding::Clear => splice_stages(
+            compiled,
+            assembled,
+            file,
+            inputs,
+            manner,
+            out,
+            table,
+            places,
+            steps,
+            index,
+        ),
+        Finding::At(section) => base_answers::refusal(
+            carry_clash::CLASH,
+            base_answers::COMPILED,
+            section as u64,
+        ),
+    }
+}
+
 // The inputs; their tables stand at the start of their buffers where all pass.
 fn take_inputs(
     compiled: &[u8],
@@ -518,18 +569,20 @@ fn breaks_limits(
     assembled: usize,
     blocks: usize,
     path: &[u8],
+    flag: u32,
     mode: u32,
     table: usize,
     places: usize,
     steps: usize,
     index: usize,
 ) -> bool
-    ensures { λ r. ⌜ r ≡ (overLimits (spliceBounds compiled assembled blocks mode table places steps index) || not (isPath (now (path .entry)))) ⌝ }
+    ensures { λ r. ⌜ r ≡ (overLimits (spliceBounds compiled assembled blocks flag mode table places steps index) || not (isPath (now (path .entry)))) ⌝ }
 {
     if breaks_splice_bounds(
         compiled,
         assembled,
         blocks,
+        flag,
         mode,
         table,
         places,
@@ -547,6 +600,7 @@ fn splice_answer<'a>(
     assembled: &'a [u8],
     file: &[u8],
     path: &[u8],
+    flag: u32,
     mode: u32,
     out: &mut [u8],
     table: &mut [u8],
@@ -554,13 +608,14 @@ fn splice_answer<'a>(
     steps: &mut [u8],
     index: &mut [u8],
 ) -> Outcome
-    ensures { λ r. ⌜ Answered (spliceVerdict (now (compiled .entry)) (now (assembled .entry)) (now (file .entry)) (now (path .entry)) mode (length (now (out .entry))) (length (now (table .entry))) (length (now (places .entry))) (length (now (steps .entry))) (length (now (index .entry)))) r (now (out .entry)) (now (out .exit)) ⌝ }
+    ensures { λ r. ⌜ Answered (spliceVerdict (now (compiled .entry)) (now (assembled .entry)) (now (file .entry)) (now (path .entry)) flag mode (length (now (out .entry))) (length (now (table .entry))) (length (now (places .entry))) (length (now (steps .entry))) (length (now (index .entry)))) r (now (out .entry)) (now (out .exit)) ⌝ }
 {
     if breaks_limits(
         compiled.len(),
         assembled.len(),
         file.len(),
         path,
+        flag,
         mode,
         table.len(),
         places.len(),
@@ -574,11 +629,12 @@ fn splice_answer<'a>(
             let inputs = merge_inputs::inputs_of(compiled, assembled, blocks);
             let head = statics_names::head_length(mode, path);
             let manner = Manner { mode, head };
-            splice_stages(
+            splice_carried(
                 compiled,
                 assembled,
                 file,
                 inputs,
+                flag,
                 manner,
                 out,
                 table,
@@ -597,6 +653,7 @@ pub fn splice<'a>(
     assembled: &'a [u8],
     file: &[u8],
     path: &[u8],
+    flag: u32,
     mode: u32,
     out: &mut [u8],
     table: &mut [u8],
@@ -604,13 +661,14 @@ pub fn splice<'a>(
     steps: &mut [u8],
     index: &mut [u8],
 ) -> Outcome
-    ensures { λ r. ⌜ Spliced (spliceVerdict (now (compiled .entry)) (now (assembled .entry)) (now (file .entry)) (now (path .entry)) mode (length (now (out .entry))) (length (now (table .entry))) (length (now (places .entry))) (length (now (steps .entry))) (length (now (index .entry)))) r (now (out .entry)) (now (out .exit)) (now (table .entry)) (now (table .exit)) (now (places .entry)) (now (places .exit)) (now (steps .entry)) (now (steps .exit)) (now (index .entry)) (now (index .exit)) ⌝ }
+    ensures { λ r. ⌜ Spliced (spliceVerdict (now (compiled .entry)) (now (assembled .entry)) (now (file .entry)) (now (path .entry)) flag mode (length (now (out .entry))) (length (now (table .entry))) (length (now (places .entry))) (length (now (steps .entry))) (length (now (index .entry)))) r (now (out .entry)) (now (out .exit)) (now (table .entry)) (now (table .exit)) (now (places .entry)) (now (places .exit)) (now (steps .entry)) (now (steps .exit)) (now (index .entry)) (now (index .exit)) ⌝ }
 {
     let r = splice_answer(
         compiled,
         assembled,
         file,
         path,
+        flag,
         mode,
         out,
         table,

@@ -26,23 +26,27 @@ returns-4 c = sym (kept-most _ _ _ (c .before .before .before .if1 .left) ∙ ke
 
 returns-5 : tie.Need-returns-5
 unfolding spliceBounds
-returns-5 c = sym (kept-most _ _ _ (c .before .before .before .before .if1 .left) ∙ kept-most _ _ _ (c .before .before .before .if2 .left) ∙ kept-most _ _ _ (c .before .before .if3 .left) ∙ kept-most _ _ _ (c .before .if4 .left) ∙ over-least _ _ _ (c .if5 .taken))
+returns-5 c = sym (kept-most _ _ _ (c .before .before .before .before .if1 .left) ∙ kept-most _ _ _ (c .before .before .before .if2 .left) ∙ kept-most _ _ _ (c .before .before .if3 .left) ∙ kept-most _ _ _ (c .before .if4 .left) ∙ over-most _ _ _ (c .if5 .taken))
 
 returns-6 : tie.Need-returns-6
 unfolding spliceBounds
-returns-6 c = sym (kept-most _ _ _ (c .before .before .before .before .before .if1 .left) ∙ kept-most _ _ _ (c .before .before .before .before .if2 .left) ∙ kept-most _ _ _ (c .before .before .before .if3 .left) ∙ kept-most _ _ _ (c .before .before .if4 .left) ∙ kept-least _ _ _ (c .before .if5 .left) ∙ over-least _ _ _ (c .if6 .taken))
+returns-6 c = sym (kept-most _ _ _ (c .before .before .before .before .before .if1 .left) ∙ kept-most _ _ _ (c .before .before .before .before .if2 .left) ∙ kept-most _ _ _ (c .before .before .before .if3 .left) ∙ kept-most _ _ _ (c .before .before .if4 .left) ∙ kept-most _ _ _ (c .before .if5 .left) ∙ over-least _ _ _ (c .if6 .taken))
 
 returns-7 : tie.Need-returns-7
 unfolding spliceBounds
-returns-7 c = sym (kept-most _ _ _ (c .before .before .before .before .before .before .if1 .left) ∙ kept-most _ _ _ (c .before .before .before .before .before .if2 .left) ∙ kept-most _ _ _ (c .before .before .before .before .if3 .left) ∙ kept-most _ _ _ (c .before .before .before .if4 .left) ∙ kept-least _ _ _ (c .before .before .if5 .left) ∙ kept-least _ _ _ (c .before .if6 .left) ∙ over-least _ _ _ (c .if7 .taken))
+returns-7 c = sym (kept-most _ _ _ (c .before .before .before .before .before .before .if1 .left) ∙ kept-most _ _ _ (c .before .before .before .before .before .if2 .left) ∙ kept-most _ _ _ (c .before .before .before .before .if3 .left) ∙ kept-most _ _ _ (c .before .before .before .if4 .left) ∙ kept-most _ _ _ (c .before .before .if5 .left) ∙ kept-least _ _ _ (c .before .if6 .left) ∙ over-least _ _ _ (c .if7 .taken))
 
 returns-8 : tie.Need-returns-8
 unfolding spliceBounds
-returns-8 c =
-    let a = c .before .before .before .before .before .before .before .args in
+returns-8 c = sym (kept-most _ _ _ (c .before .before .before .before .before .before .before .if1 .left) ∙ kept-most _ _ _ (c .before .before .before .before .before .before .if2 .left) ∙ kept-most _ _ _ (c .before .before .before .before .before .if3 .left) ∙ kept-most _ _ _ (c .before .before .before .before .if4 .left) ∙ kept-most _ _ _ (c .before .before .before .if5 .left) ∙ kept-least _ _ _ (c .before .before .if6 .left) ∙ kept-least _ _ _ (c .before .if7 .left) ∙ over-least _ _ _ (c .if8 .taken))
+
+returns-9 : tie.Need-returns-9
+unfolding spliceBounds
+returns-9 c =
+    let a = c .before .before .before .before .before .before .before .before .args in
     by-lt (a .index) INDEX_BUFFER
-    (λ h. lt-ltb _ _ h ∙ sym (kept-most _ _ _ (c .before .before .before .before .before .before .if1 .left) ∙ kept-most _ _ _ (c .before .before .before .before .before .if2 .left) ∙ kept-most _ _ _ (c .before .before .before .before .if3 .left) ∙ kept-most _ _ _ (c .before .before .before .if4 .left) ∙ kept-least _ _ _ (c .before .before .if5 .left) ∙ kept-least _ _ _ (c .before .if6 .left) ∙ kept-least _ _ _ (c .if7 .left) ∙ over-least _ _ _ h))
-    (λ h. le-ltb _ _ h ∙ sym (kept-most _ _ _ (c .before .before .before .before .before .before .if1 .left) ∙ kept-most _ _ _ (c .before .before .before .before .before .if2 .left) ∙ kept-most _ _ _ (c .before .before .before .before .if3 .left) ∙ kept-most _ _ _ (c .before .before .before .if4 .left) ∙ kept-least _ _ _ (c .before .before .if5 .left) ∙ kept-least _ _ _ (c .before .if6 .left) ∙ kept-least _ _ _ (c .if7 .left) ∙ kept-least _ _ _ h ∙ over-none))
+    (λ h. lt-ltb _ _ h ∙ sym (kept-most _ _ _ (c .before .before .before .before .before .before .before .if1 .left) ∙ kept-most _ _ _ (c .before .before .before .before .before .before .if2 .left) ∙ kept-most _ _ _ (c .before .before .before .before .before .if3 .left) ∙ kept-most _ _ _ (c .before .before .before .before .if4 .left) ∙ kept-most _ _ _ (c .before .before .before .if5 .left) ∙ kept-least _ _ _ (c .before .before .if6 .left) ∙ kept-least _ _ _ (c .before .if7 .left) ∙ kept-least _ _ _ (c .if8 .left) ∙ over-least _ _ _ h))
+    (λ h. le-ltb _ _ h ∙ sym (kept-most _ _ _ (c .before .before .before .before .before .before .before .if1 .left) ∙ kept-most _ _ _ (c .before .before .before .before .before .before .if2 .left) ∙ kept-most _ _ _ (c .before .before .before .before .before .if3 .left) ∙ kept-most _ _ _ (c .before .before .before .before .if4 .left) ∙ kept-most _ _ _ (c .before .before .before .if5 .left) ∙ kept-least _ _ _ (c .before .before .if6 .left) ∙ kept-least _ _ _ (c .before .if7 .left) ∙ kept-least _ _ _ (c .if8 .left) ∙ kept-least _ _ _ h ∙ over-none))
 
 pub breaks-splice-bounds-spec : {M : Type 1} → statement M
-breaks-splice-bounds-spec = tie.close (tie.spec returns returns-2 returns-3 returns-4 returns-5 returns-6 returns-7 returns-8)
+breaks-splice-bounds-spec = tie.close (tie.spec returns returns-2 returns-3 returns-4 returns-5 returns-6 returns-7 returns-8 returns-9)

@@ -50,7 +50,7 @@ returns c =
     let zero2 = c .before .before .before .before .before .before .before .before .before .before .zero2 in
     let zero3 = c .before .before .before .before .before .before .zero3 in
     let zero4 = c .before .before .zero4 in
-    spliced-of _ _ _ _ _ _ _ _ _ _ _ _ _ (splice-answer .ensures) (zero-from .ensures) (zero .ensures ∙ ap zeros (splice-answer .kept .1 .1 .1 .1 .1 .1 .0)) (zero2 .ensures ∙ ap zeros (splice-answer .kept .1 .1 .1 .1 .1 .1 .1 .0)) (zero3 .ensures ∙ ap zeros (splice-answer .kept .1 .1 .1 .1 .1 .1 .1 .1 .0)) (zero4 .ensures ∙ ap zeros (splice-answer .kept .1 .1 .1 .1 .1 .1 .1 .1 .1 .0))
+    spliced-of _ _ _ _ _ _ _ _ _ _ _ _ _ (splice-answer .ensures) (zero-from .ensures) (zero .ensures ∙ ap zeros (splice-answer .kept .1 .1 .1 .1 .1 .1 .1 .0)) (zero2 .ensures ∙ ap zeros (splice-answer .kept .1 .1 .1 .1 .1 .1 .1 .1 .0)) (zero3 .ensures ∙ ap zeros (splice-answer .kept .1 .1 .1 .1 .1 .1 .1 .1 .1 .0)) (zero4 .ensures ∙ ap zeros (splice-answer .kept .1 .1 .1 .1 .1 .1 .1 .1 .1 .1 .0))
 
 pub splice-spec : {M : Type 1} → statement M
 splice-spec =

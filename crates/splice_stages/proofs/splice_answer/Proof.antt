@@ -21,13 +21,13 @@ returns c =
     let breaks-limits = c .before .before .breaks-limits in
     let if1 = c .before .if1 in
     let refusal = c .refusal in
-    answered-as _ _ _ _ _ (verdict-over (now (args .compiled)) (now (args .assembled)) (now (args .file)) (now (args .path)) (args .mode) _ _ _ _ _ (sym (breaks-limits .ensures) ∙ if1 .taken)) (answered-refused _ _ _ _ _ _ (refusal .ensures) refl)
+    answered-as _ _ _ _ _ (verdict-over (now (args .compiled)) (now (args .assembled)) (now (args .file)) (now (args .path)) (args .flag) (args .mode) _ _ _ _ _ (sym (breaks-limits .ensures) ∙ if1 .taken)) (answered-refused _ _ _ _ _ _ (refusal .ensures) refl)
 
 take-inputs-requires : tie.Need-take-inputs-requires
 take-inputs-requires c κs =
     let breaks-limits = c .before .before .before .breaks-limits in
     let if1 = c .before .before .if1 in
-    let l = splice-limits _ _ _ _ _ _ _ _ _ (sym (breaks-limits .ensures) ∙ if1 .left) in
+    let l = splice-limits _ _ _ _ _ _ _ _ _ _ (sym (breaks-limits .ensures) ∙ if1 .left) in
     (l .blocks-limit, l .table-size, l .places-size)
 
 enum-known-blocks : tie.Need-enum-known-blocks
@@ -45,11 +45,11 @@ head-length-requires c κs =
     let breaks-limits = c .before .before .before .before .before .before .before .before .before .before .before .before .breaks-limits in
     let if1 = c .before .before .before .before .before .before .before .before .before .before .before .if1 in
     let args = c .before .before .before .before .before .before .before .before .before .before .before .before .before .before .before .before .before .before .before .before .before .before .args in
-    let l = splice-limits _ _ _ _ _ _ _ _ _ (sym (breaks-limits .ensures) ∙ if1 .left) in
+    let l = splice-limits _ _ _ _ _ _ _ _ _ _ (sym (breaks-limits .ensures) ∙ if1 .left) in
     path-short (now (args .path)) (l .path-is)
 
-splice-stages-requires : tie.Need-splice-stages-requires
-splice-stages-requires c κs =
+splice-carried-requires : tie.Need-splice-carried-requires
+splice-carried-requires c κs =
     let breaks-limits = c .before .before .before .before .before .before .before .before .before .before .before .before .before .before .before .before .before .before .breaks-limits in
     let if1 = c .before .before .before .before .before .before .before .before .before .before .before .before .before .before .before .before .before .if1 in
     let args = c .before .before .before .before .before .before .before .before .before .before .before .before .before .before .before .before .before .before .before .before .before .before .before .before .before .before .before .before .args in
@@ -57,7 +57,7 @@ splice-stages-requires c κs =
     let blocks2 = c .before .before .before .before .before .before .before .before .blocks2 in
     let inputs-of = c .before .before .before .before .before .before .inputs-of in
     let head-length = c .before .before .before .before .before .head-length in
-    let l = splice-limits _ _ _ _ _ _ _ _ _ (sym (breaks-limits .ensures) ∙ if1 .left) in
+    let l = splice-limits _ _ _ _ _ _ _ _ _ _ (sym (breaks-limits .ensures) ∙ if1 .left) in
     (inputs-read (now (args .compiled)) (now (args .assembled)) (now (args .file)) _ _ _ (take-inputs .ensures) _ (blocks2 .given .1) (l .compiled-limit) (l .assembled-limit) _ (inputs-of .ensures), head-length .ensures .1, record { table-long = rw (take-inputs .kept .1 .1 .1 .0) (l .table-size); places-long = rw (take-inputs .kept .1 .1 .1 .1 .0) (l .places-size); steps-long = l .steps-size; index-long = l .index-size })
 
 enum-known-number : tie.Need-enum-known-number
@@ -71,9 +71,9 @@ same-length c = search needs
 
 same-length-2 : tie.Need-same-length-2
 same-length-2 c =
-    let splice-stages = c .before .before .before .before .before .before .before .before .before .before .splice-stages in
+    let splice-carried = c .before .before .before .before .before .before .before .before .before .before .splice-carried in
     let take-inputs = c .before .before .before .before .before .before .before .before .before .before .before .before .before .before .before .before .before .before .before .before .before .before .before .before .before .take-inputs in
-    splice-stages .kept .1 .1 .1 .1 .1 .1 .0 ∙ take-inputs .kept .1 .1 .1 .0
+    splice-carried .kept .1 .1 .1 .1 .1 .1 .1 .0 ∙ take-inputs .kept .1 .1 .1 .0
 
 same-length-3 : tie.Need-same-length-3
 same-length-3 c = search needs
@@ -93,10 +93,10 @@ returns-2 c =
     let blocks2 = c .before .before .before .before .before .before .before .before .before .before .before .before .before .before .before .before .before .before .before .blocks2 in
     let inputs-of = c .before .before .before .before .before .before .before .before .before .before .before .before .before .before .before .before .before .inputs-of in
     let head-length = c .before .before .before .before .before .before .before .before .before .before .before .before .before .before .before .before .head-length in
-    let splice-stages = c .before .before .before .before .before .before .before .before .before .before .splice-stages in
-    let l = splice-limits _ _ _ _ _ _ _ _ _ (sym (breaks-limits .ensures) ∙ if1 .left) in
+    let splice-carried = c .before .before .before .before .before .before .before .before .before .before .splice-carried in
+    let l = splice-limits _ _ _ _ _ _ _ _ _ _ (sym (breaks-limits .ensures) ∙ if1 .left) in
     let q = inputs-read (now (args .compiled)) (now (args .assembled)) (now (args .file)) _ _ _ (take-inputs .ensures) _ (blocks2 .given .1) (l .compiled-limit) (l .assembled-limit) _ (inputs-of .ensures) in
-    answered-as _ _ _ _ _ (verdict-stages (now (args .compiled)) (now (args .assembled)) (now (args .file)) (now (args .path)) (args .mode) _ _ _ _ _ (sym (breaks-limits .ensures) ∙ if1 .left) _ (take-inputs .ensures .verdict) _ (blocks2 .given .1) _ (inputs-of .ensures) _ (q .placed) _ (head-length .ensures .0)) (splice-stages .ensures)
+    answered-as _ _ _ _ _ (verdict-stages (now (args .compiled)) (now (args .assembled)) (now (args .file)) (now (args .path)) (args .flag) (args .mode) _ _ _ _ _ (sym (breaks-limits .ensures) ∙ if1 .left) _ (take-inputs .ensures .verdict) _ (blocks2 .given .1) _ (inputs-of .ensures) _ (q .placed) _ (head-length .ensures .0)) (splice-carried .ensures)
 
 same-length-6 : tie.Need-same-length-6
 same-length-6 c = search needs
@@ -112,7 +112,7 @@ returns-3 c =
     let take-inputs = c .before .before .before .before .before .before .before .before .take-inputs in
     let number = c .before .before .number in
     let refusal2 = c .refusal2 in
-    answered-as _ _ _ _ _ (verdict-refused (now (args .compiled)) (now (args .assembled)) (now (args .file)) (now (args .path)) (args .mode) _ _ _ _ _ (sym (breaks-limits .ensures) ∙ if1 .left) _ (take-inputs .ensures .verdict) _ _ _ (number .given .1)) (answered-refused _ _ _ _ _ _ (refusal2 .ensures) refl)
+    answered-as _ _ _ _ _ (verdict-refused (now (args .compiled)) (now (args .assembled)) (now (args .file)) (now (args .path)) (args .flag) (args .mode) _ _ _ _ _ (sym (breaks-limits .ensures) ∙ if1 .left) _ (take-inputs .ensures .verdict) _ _ _ (number .given .1)) (answered-refused _ _ _ _ _ _ (refusal2 .ensures) refl)
 
 pub splice-answer-spec : {M : Type 1} → statement M
 splice-answer-spec =
@@ -125,7 +125,7 @@ splice-answer-spec =
     enum-known-blocks
     inputs-of-requires
     head-length-requires
-    splice-stages-requires
+    splice-carried-requires
     enum-known-number
     refusal-requires-2
     same-length
