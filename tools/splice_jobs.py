@@ -6,9 +6,9 @@
                                      where the Rust (oracle/target/release/oracle) merges the job, with the sections and the symbol table of its object
   tools/splice_jobs.py speed         times both on jobs that grow
 
-A job is a compiled object, an assembled one and a block file, a path and a statics mode, and the lengths of the output and of the working buffers. What is expected
-comes from the model of document 01 (MODEL, by default ../shared/model): the refusals of lengths, of both objects, of the block file and of places, then 11 to 19 and
-21; or the bytes that the merge writes over C's .text, .data, .rodata and .reginfo, one behind the other, the number of local entries of the result's symbol table,
+A job is a compiled object, an assembled one and a block file, a path, a statics mode and a drop flag, and the lengths of the output and of the working buffers. What is
+expected comes from the model of document 01 (MODEL, by default ../shared/model): the refusals of lengths, of both objects, of the block file and of places, then 10 to
+19 and 21; or the bytes that the merge writes over C's .text, .data, .rodata and .reginfo, one behind the other, the number of local entries of the result's symbol table,
 and that table. Real jobs come from Debian's gcc-mips-linux-gnu and binutils-mips-linux-gnu, where the model's draft is assembled, and from CASES (by default
 ../shared/cases/real.tar.xz); where either is not there, its jobs are those of the recorded list. The program has no say.
 """
@@ -25,7 +25,7 @@ import time
 TOP = os.path.dirname(os.path.dirname(os.path.abspath(__file__)))
 sys.path.insert(0, os.path.join(TOP, 'tools'))
 sys.path.insert(0, os.environ.get('MODEL', os.path.join(TOP, '..', 'shared', 'model')))
-import draft_jobs, model, real_jobs, statics_jobs, symbol_jobs  # noqa: E402
+import carry_jobs, draft_jobs, model, real_jobs, statics_jobs, symbol_jobs  # noqa: E402
 
 CASES = os.environ.get('CASES', os.path.join(TOP, '..', 'shared', 'cases', 'real.tar.xz'))
 FOLDER = os.path.join(TOP, 'crates', 'prog_splice_jobs')
@@ -247,7 +247,7 @@ def compiled_splices():
             for options in real_jobs.OPTIONS:
                 with open(os.path.join(d, 'c.c'), 'w') as f:
                     f.write(real_jobs.SOURCES[source])
-                subprocess.run(['mips-linux-gnu-gcc', *options, '-fdebug-prefix-map=' + d + '=', '-fno-toplevel-reorder', '-c', 'c.c', '-o', 'c.o'], check=True, cwd=d)
+                subprocess.run(['mips-linux-gnu-gcc', *options, '-Wa,-mno-pdr', '-fdebug-prefix-map=' + d + '=', '-fno-toplevel-reorder', '-c', 'c.c', '-o', 'c.o'], check=True, cwd=d)
                 with open(os.path.join(d, 'c.o'), 'rb') as f:
                     compiled = f.read()
                 blocks, _ = real_jobs.blocks_of(compiled)
@@ -282,9 +282,10 @@ def recorded():
         data = f.read()
     while data:
         *lengths, stored, mode, room = struct.unpack('>7I', data[:28])
-        held, data = data[44:44 + stored].ljust(sum(lengths), b'\0'), data[44:]
+        flag, = struct.unpack('>I', data[44:48])
+        held, data = data[48:48 + stored].ljust(sum(lengths), b'\0'), data[48:]
         parts = [held[sum(lengths[:k]):sum(lengths[:k + 1])] for k in range(4)]
-        yield symbol_jobs.Job(*parts, mode, room)
+        yield symbol_jobs.Job(*parts, mode, room, flag=flag)
         data = data[stored:]
 
 
@@ -320,7 +321,7 @@ def symbol_table(c, a, blocks, spans, live, late, path, mode):
 
 def expected(job):
     """the model's refusal of these stages, or the bytes of the four sections, the number of local entries and the symbol table"""
-    if model.faults_1(job[:3], job.path, 0, job.mode) or any(n < least for n, least in zip(job.buffers, symbol_jobs.BUFFERS)):
+    if model.faults_1(job[:3], job.path, job.flag, job.mode) or any(n < least for n, least in zip(job.buffers, symbol_jobs.BUFFERS)):
         return 'refused', 1, 0, 0
     r = model.object_refusal(job.compiled, model.OBJ_C)
     if r:
@@ -335,7 +336,7 @@ def expected(job):
         return r
     a = model.read_object(job.assembled)
     runs_late = model.late_step(blocks, live)
-    r = (model.refusal(11, model.faults_11(c, a, spans, runs_late)) or model.refusal(12, model.faults_12(a, spans))
+    r = (model.refusal(10, model.faults_10(c, a, model.dropped_from(c.sections, job.flag))) or model.refusal(11, model.faults_11(c, a, spans, runs_late)) or model.refusal(12, model.faults_12(a, spans))
          or model.refusal(13, model.faults_13(a, blocks, live) if runs_late else []))
     if r:
         return r
@@ -362,7 +363,7 @@ def packed(job):
     """a job in the list; zeros at the end of its files are left out"""
     files = job[:4]
     stored = b''.join(files).rstrip(b'\0')
-    return struct.pack('>11I', *map(len, files), len(stored), job.mode, job.room, *job.buffers) + stored
+    return struct.pack('>12I', *map(len, files), len(stored), job.mode, job.room, *job.buffers, job.flag) + stored
 
 
 def written(k, got):
@@ -380,10 +381,10 @@ class Rust:
             sys.exit(f'{real_jobs.ORACLE} is not there: cargo build --release in oracle/')
         self.process = subprocess.Popen([real_jobs.ORACLE, 'serve'], stdin=subprocess.PIPE, stdout=subprocess.PIPE)
 
-    def ask(self, compiled, assembled, file, path=b'c.o', mode=0):
-        """0 and the merged object, with no section dropped; 1 and why the Rust refuses; 2 where the oracle gives no verdict"""
+    def ask(self, compiled, assembled, file, path=b'c.o', mode=0, flag=0):
+        """0 and the merged object; 1 and why the Rust refuses; 2 where the oracle gives no verdict"""
         fields = (compiled, assembled, b'', file, path)
-        self.process.stdin.write(b'\x01' + b''.join(struct.pack('>I', len(x)) + x for x in fields) + bytes([0, mode]))
+        self.process.stdin.write(b'\x01' + b''.join(struct.pack('>I', len(x)) + x for x in fields) + bytes([flag, mode]))
         self.process.stdin.flush()
         kind, length = struct.unpack('>BI', self.process.stdout.read(5))
         return kind, self.process.stdout.read(length)
@@ -431,6 +432,17 @@ def table_rows(b, number, place):
         yield 'a relocation table whose sh_link is not the symbol table', t.sh_link != model.symtab_index(sections)
 
 
+def clash_rows(job, place):
+    """the same about tables and dropped sections: refusal 10"""
+    c = model.read_object(job.compiled)
+    stay = model.dropped_from(c.sections, job.flag)
+    s = c.sections[place]
+    four = [model.find(c, code) for code in model.BLOCK_CODES]
+    yield "a relocation table of C with entries for another section than its first .text, .data, .rodata or .bss", model.is_table(s) and s.sh_size > 0 and s.sh_info not in four
+    yield 'a symbol or a relocation table of C that refers to a dropped section', place >= stay or model.is_table(s) and s.sh_info >= stay
+    yield "A's relocations join a table of C of another type or for another section", s.name.startswith(b'.rel')
+
+
 def symbol_rows(job, number, place):
     """the same about A's symbols and C's statics"""
     if number == 15:
@@ -458,13 +470,15 @@ def row_of(job, number, who, place):
     b = job.assembled if who == model.OBJ_A else job.compiled
     if number == 7:
         return 'a bad block file, which is not asked of the Rust'
+    if number == 10:
+        return next((name for name, met in clash_rows(job, place) if met), None)
     rows = header_rows(b, number, place) if number < 5 else table_rows(b, number, place) if number < 7 else symbol_rows(job, number, place)
     return next((name for name, met in rows if met), None)
 
 
 def later_refusal(job):
-    """whether the model refuses an accepted job by 10, 20 or the 17 of a moved debug section, which these stages do not have"""
-    return model.merge(*job[:4], 0, job.mode)[0] == 'refused'
+    """whether the model refuses an accepted job by 20 or the 17 of a moved debug section, which these stages do not have"""
+    return model.merge(*job[:4], job.flag, job.mode)[0] == 'refused'
 
 
 def not_for_rust(job):
@@ -495,13 +509,13 @@ class Beside:
         if kind != 0 and not_for_rust(job):
             return f'accepted here, left out: {not_for_rust(job)}', True
         words = 'merged otherwise' if kind == 0 else 'not merged'
-        return f'accepted here, {words} by the Rust, left out: refused by 10, 17 or 20 of the whole merge', later_refusal(job)
+        return f'accepted here, {words} by the Rust, left out: refused by 17 or 20 of the whole merge', later_refusal(job)
 
     def hold(self, name, job, got):
         """counts a job; prints it where the Rust differs for a reason on no list"""
         if got[:2] in (('refused', 1), ('refused', 21)):
             return
-        kind, answer = self.rust.ask(*job[:5])
+        kind, answer = self.rust.ask(*job[:5], job.flag)
         words, listed = self.hold_result(job, got, kind, answer) if got[0] == 'ok' else self.hold_refusal(job, got, kind)
         self.counts[words] = self.counts.get(words, 0) + 1
         if not listed:
@@ -514,8 +528,9 @@ class Beside:
 
 def other_jobs(seed, count):
     """made and damaged jobs that are not on the list"""
-    n = count // 4
-    return [*made_jobs(seed, n), *damaged_jobs(n, seed + 1), *symbol_jobs.tangled_jobs(n, seed + 2, 9), *symbol_jobs.damaged_tables(count - 3 * n, seed + 3)]
+    n = count // 6
+    return [*made_jobs(seed, n), *damaged_jobs(n, seed + 1), *symbol_jobs.tangled_jobs(n, seed + 2, 9), *symbol_jobs.damaged_tables(n, seed + 3),
+            *carry_jobs.made_jobs(seed + 4, n), *carry_jobs.damaged_jobs(count - 5 * n, seed + 5)]
 
 
 def compare(seed, count):
@@ -634,7 +649,8 @@ def some(jobs, each, most=1250):
 def listed_jobs():
     """the jobs of the recorded list"""
     tangled, damaged = symbol_jobs.tangled_jobs(400, 5), symbol_jobs.damaged_tables(400, 6)
-    return [*made_jobs(1, 6 * len(VARIATIONS)), *damaged_jobs(60, 2), *real_splices(), *limit_jobs(), *symbol_jobs.aimed_jobs(), *some(tangled, 3), *some(damaged, 2)]
+    return [*made_jobs(1, 5 * len(VARIATIONS)), *damaged_jobs(60, 2), *real_splices(), *limit_jobs(), *symbol_jobs.aimed_jobs(), *some(tangled, 3), *some(damaged, 2),
+            *carry_jobs.made_jobs(7, 3 * len(carry_jobs.VARIATIONS))]
 
 
 def main():

@@ -30,6 +30,7 @@ class Job(NamedTuple):
     mode: int = 0
     room: int = ROOM
     buffers: tuple = BUFFERS
+    flag: int = 0
 
 
 class Sym(NamedTuple):
@@ -56,21 +57,23 @@ def kind_of(name):
     return KINDS.get(name, tables)
 
 
-def made(sections, symbols, info=1):
-    """an object of sections (name: bytes, a size for .bss, or what makes bytes of an offset), symbols (fields of a Sym) and the symbol table's sh_info"""
-    names = list(sections)
+def made(sections, symbols, info=1, tail=None):
+    """an object of sections (name: bytes, a size for .bss, or what makes bytes of an offset), symbols (fields of a Sym) and the symbol table's sh_info; those of the tail
+    stand behind the string tables"""
+    names, tail = list(sections), tail or {}
+    every = names + [b'.shstrtab', b'.symtab', b'.strtab', *tail]
     strings, entries = b'\0', b'\0' * 16
     for y in (Sym(*s) for s in symbols):
-        entries += y.entry(len(strings), names)
+        entries += y.entry(len(strings), every)
         strings += y.name + b'\0'
-    table = b'\0' + b''.join(n + b'\0' for n in names + [b'.shstrtab', b'.symtab', b'.strtab'])
+    table = b'\0' + b''.join(n + b'\0' for n in every)
     body, heads = b'', [check_objects.section_header(kind=0)]
-    for name, data in list(sections.items()) + [(b'.shstrtab', table), (b'.symtab', entries), (b'.strtab', strings)]:
+    for name, data in [*sections.items(), (b'.shstrtab', table), (b'.symtab', entries), (b'.strtab', strings), *tail.items()]:
         kind = kind_of(name)
         data = data(52 + len(body)) if callable(data) else data
         more = dict(link=len(names) + 3, info=info, entsize=16) if kind == 2 else {}
         if kind in model.ENTRY:
-            more = dict(link=len(names) + 2, info=names.index(name[name.index(b'.', 1):]) + 1, entsize=model.ENTRY[kind])
+            more = dict(link=len(names) + 2, info=every.index(name[name.index(b'.', 1):]) + 1, entsize=model.ENTRY[kind])
         size = data if kind == 8 else len(data)
         heads.append(check_objects.section_header(table.index(b'\0' + name + b'\0') + 1, kind, 3, 0, 52 + len(body), size, align=4, **more))
         body += b'' if kind == 8 else data

@@ -1,8 +1,8 @@
 // Replays a list of jobs through the stages of the merge up to the symbol table, and prints the answer of each: `job K accepted LENGTH`, the bytes written over C's
-// .text, .data, .rodata and .reginfo, the number of local entries and the symbol table of the result, and LF; or `job K refused NUMBER OBJECT PLACE`. A job is eleven
+// .text, .data, .rodata and .reginfo, the number of local entries and the symbol table of the result, and LF; or `job K refused NUMBER OBJECT PLACE`. A job is twelve
 // words, four bytes each, the most significant first, and then bytes: the lengths of the compiled object, the assembled object, the block file and the path; of the
-// bytes that follow, which are those of the four up to zeros at their end; the statics mode; the lengths of the output and of the four working buffers. The list is
-// the file that the first argument names.
+// bytes that follow, which are those of the four up to zeros at their end; the statics mode; the lengths of the output and of the four working buffers; the drop flag.
+// The list is the file that the first argument names.
 ghost use Prim.Native.Nat.{_≤_};
 use libc::STDOUT_FILENO;
 
@@ -54,6 +54,7 @@ fn splice_parts<'a>(
     let mut steps = steps_room();
     let mut index = index_room();
     let mode = prog_cases::length_at(head, 20) as u32;
+    let flag = prog_cases::length_at(head, 44) as u32;
     let t = lent(head, 28, table.len());
     let p = lent(head, 32, places.len());
     let s = lent(head, 36, steps.len());
@@ -63,6 +64,7 @@ fn splice_parts<'a>(
         assembled,
         blocks,
         path,
+        flag,
         mode,
         out,
         &mut table[0..t],
@@ -104,9 +106,9 @@ fn run_parts(head: &[u8], job: &[u8], a: usize, b: usize, e: usize, p: usize, ou
 
 // Reads a job and runs it; false at the end of the list.
 fn run_job(fd: i32, job: &mut [u8], out: &mut [u8]) -> bool {
-    let mut head = [0u8; 44];
+    let mut head = [0u8; 48];
     let got = io::read_full(fd, &mut head);
-    if got < 44 {
+    if got < 48 {
         return false;
     }
     let a = prog_cases::length_at(&head, 0);
