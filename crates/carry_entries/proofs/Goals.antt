@@ -1,0 +1,177 @@
+-- What each way through the code says of one entry: where it goes, what its symbol becomes, and whether it is lost. Assumes nothing.
+use Prim.Native.Nat.{ℕ, zero, suc, _+_, _^_, _<_}
+use mathlib.Core.Path.{_≡_, refl, sym, ap, _∙_}
+use mathlib.Core.Bool.{Bool, true, false, not, _&&_}
+use mathlib.Core.List.{List}
+use native.Mathlib.Omega.{arith}
+use lib.Dec.{eqb}
+use borrow.Author.Tests.{eq-eqb, ne-eqb}
+use Rattle.base_lists.proofs.Ranges.{by-lt, and-parts}
+use Rattle.base_fields.specs.declared.ByteOrder.{ByteOrder}
+use Rattle.base_packed.specs.Packed.{symbolOf, kindOf, relocationInfo}
+use Rattle.base_scope.specs.Codes.{LATE-RODATA, leavesOut, isLateTarget}
+use Rattle.elf_records.specs.declared.relocation.RelocationEntry.{RelocationEntry}
+use Rattle.elf_records.specs.declared.section.SectionHeader.{SectionHeader}
+use Rattle.elf_readers.specs.Readers.{section}
+use Rattle.elf_relocations.specs.Relocations.{isTable, entrySize, relocation}
+use Rattle.elf_check.specs.declared.View.{View}
+use Rattle.elf_check.specs.View.{viewOf}
+use Rattle.blocks_spans.specs.Spans.{replacedWord}
+use Rattle.blocks_spans.specs.Table.{spansIn}
+use Rattle.late_lookups.specs.declared.LatePlace.{LatePlace}
+use Rattle.late_lookups.specs.declared.LatePlace.the-variants.{Moved, Unmoved as NotMoved}
+use Rattle.late_lookups.specs.Fields.{offsetAt, jumpAt}
+use Rattle.symbols_taken.specs.Used.{codeOf, isSourceTable}
+use Rattle.symbols_taken.specs.Code.{codeIn}
+use Rattle.symbols_taken.proofs.Sections.{code-is, table-kind}
+use Rattle.symbols_rows.specs.Rows.{wordIn}
+use Rattle.symbols_numbers.specs.declared.NewSymbol.{NewSymbol}
+use Rattle.symbols_numbers.specs.Numbers.{newSymbol, newIn}
+use Rattle.symbols_numbers.proofs.Leaves.{new-in, new-past}
+use Rattle.carry_clash.specs.Clash.{isCarried}
+use Rattle.carry_entries.specs.declared.Goal.{Goal}
+use Rattle.carry_entries.specs.declared.Goal.the-variants.{To, LeftOut, Unmoved}
+use Rattle.carry_entries.specs.declared.Side.{Side}
+use Rattle.carry_entries.specs.declared.EntryTable.{EntryTable}
+use Rattle.carry_entries.specs.Entries.{isLeftOut, isStuck, goalPlace, isInResult, newNumber}
+use Rattle.carry_entries.specs.Carried.{pickGoal}
+use Rattle.carry_entries.specs.Code.{lateGoal, pickTables, isGoneIn, goalIn, isKeptEntry, symbolIn, isLostEntry, carriedTo, isKeptIn, entryTableOf, SymbolsRead}
+
+-- ---- one test behind another
+
+pub and-read : (t a r b : Bool) → t ≡ a → t ≡ true → r ≡ b → r ≡ (a && b)
+and-read t a r b e y f = rw (← e, y) f
+
+pub and-left : (t a b : Bool) → t ≡ a → t ≡ false → false ≡ (a && b)
+and-left t a b e n = rw (← e, n)
+
+pub and-then : (t a b d : Bool) → t ≡ a → t ≡ true → b ≡ false → false ≡ (a && (b && d))
+and-then t a b d e y n = rw (← e, y, n)
+
+pub and-both : (t a b d r : Bool) → t ≡ a → t ≡ true → b ≡ true → r ≡ d → r ≡ (a && (b && d))
+and-both t a b d r e y z f = rw (← e, y, z) f
+
+-- ---- where an entry goes
+
+module _ (s : Side) (rows late : List ℕ) (c x : ℕ) where
+  module _ (t : Bool) (e : t ≡ (leavesOut c && replacedWord (spansIn rows (s .spans)) x)) where
+    pub gone-replaced : t ≡ true → true ≡ isGoneIn s rows late c x
+    unfolding isGoneIn
+    gone-replaced y = rw (← e, y)
+
+    pub gone-jump : t ≡ false → (r : Bool) → r ≡ (isLateTarget c && (s .runs && jumpAt late (s .blocks) x)) → r ≡ isGoneIn s rows late c x
+    unfolding isGoneIn
+    gone-jump n r f = rw (← e, n) f
+
+  module _ (yes : s .compiled ≡ true) (t : Bool) (e : t ≡ isGoneIn s rows late c x) where
+    pub goal-gone : t ≡ true → LeftOut ≡ goalIn s rows late c x
+    unfolding goalIn
+    goal-gone y = rw (← e, y, yes)
+
+    pub goal-stays : t ≡ false → To x ≡ goalIn s rows late c x
+    unfolding goalIn
+    goal-stays n = rw (← e, n, yes)
+
+  module _ (no : s .compiled ≡ false) where
+    pub goal-late : c ≡ LATE-RODATA → (g : Goal) → g ≡ pickGoal (s .runs) (lateGoal (offsetAt late (s .blocks) x)) Unmoved → g ≡ goalIn s rows late c x
+    unfolding goalIn
+    goal-late h g e = rw (no, eq-eqb c LATE-RODATA h) e
+
+    pub goal-same : (c ≡ LATE-RODATA → ⊥) → To x ≡ goalIn s rows late c x
+    unfolding goalIn
+    goal-same d = rw (no, ne-eqb c LATE-RODATA d)
+
+module _ (runs : Bool) (late : List ℕ) (n x : ℕ) where
+  pub late-to : (r : LatePlace) (p : ℕ) → runs ≡ true → r ≡ offsetAt late n x → r ≡ Moved p → To p ≡ pickGoal runs (lateGoal (offsetAt late n x)) Unmoved
+  unfolding lateGoal
+  late-to r p t e m = rw (t, ← e, m)
+
+  pub late-stuck : (r : LatePlace) → runs ≡ true → r ≡ offsetAt late n x → r ≡ NotMoved → Unmoved ≡ pickGoal runs (lateGoal (offsetAt late n x)) Unmoved
+  unfolding lateGoal
+  late-stuck r t e m = rw (t, ← e, m)
+
+  pub late-idle : runs ≡ false → Unmoved ≡ pickGoal runs (lateGoal (offsetAt late n x)) Unmoved
+  late-idle f = rw f
+
+-- ---- what its symbol becomes
+
+number-of : (x : ℕ) → newNumber (newSymbol x) ≡ x
+unfolding newNumber newSymbol
+number-of zero = refl
+number-of (suc x) = refl
+
+module _ (s : Side) (N : List ℕ) (info : ℕ) where
+  pub symbol-compiled : s .first ≡ 0 → (k : ℕ) → k ≡ symbolOf info → (r : NewSymbol) → r ≡ newIn N 0 (s .view .symbols .count) k → r ≡ symbolIn s N info
+  unfolding symbolIn
+  symbol-compiled z k e r f = rw (z, ← e) f
+
+  pub symbol-assembled : (k : ℕ) → k ≡ symbolOf info → (r : NewSymbol) → r ≡ newIn N (s .first) (s .view .symbols .count) k → r ≡ symbolIn s N info
+  unfolding symbolIn
+  symbol-assembled k e r f = rw (← e) f
+
+  number-small : SymbolsRead s N → newNumber (symbolIn s N info) < 2 ^ 24
+  unfolding symbolIn newNumber
+  number-small w = by-lt (symbolOf info) (s .view .symbols .count)
+      (λ l.
+      rw (new-in N (s .first) (s .view .symbols .count) (symbolOf info) l, number-of (wordIn N (s .first + symbolOf info)))
+      (w .few (s .first + symbolOf info) (omega arith)))
+      (λ l. rw (new-past N (s .first) (s .view .symbols .count) (symbolOf info) l) (omega arith))
+
+  module _ (n : NewSymbol) (is : n ≡ symbolIn s N info) (m : ℕ) (number : m ≡ newNumber n) where
+    pub info-small : SymbolsRead s N → m < 2 ^ 24
+    info-small w = rw (number, is) (number-small w)
+
+    pub info-read : (k : ℕ) → k ≡ kindOf info → (r : ℕ) → r ≡ relocationInfo m k → r ≡ relocationInfo (newNumber (symbolIn s N info)) (kindOf info)
+    info-read k e r f = rw (← is, ← number, ← e) f
+
+-- ---- the entry in the result
+
+module _ (s : Side) (N : List ℕ) (g : Goal) (e : RelocationEntry) where
+  pub carried-read : (x y : ℕ) → x ≡ goalPlace g → y ≡ relocationInfo (newNumber (symbolIn s N (e .«r_info»))) (kindOf (e .«r_info»))
+      → _≡_ {A = RelocationEntry} (record { «r_offset» = x; «r_info» = y; «r_addend» = e .«r_addend» }) (carriedTo s N g e)
+  unfolding carriedTo
+  carried-read x y p q = rw (p, q)
+
+-- ---- whether it is lost
+
+module _ (s : Side) (rows late N : List ℕ) (c : ℕ) (e : RelocationEntry) (g : Goal) (goal : g ≡ goalIn s rows late c (e .«r_offset»)) (t : Bool) (out : t ≡ isLeftOut g) where
+  pub lost-out : t ≡ true → false ≡ isLostEntry s rows late N c e
+  unfolding isLostEntry isKeptEntry
+  lost-out y = rw (← goal, ← out, y)
+
+  module _ (n : t ≡ false) (u : Bool) (stuck : u ≡ isStuck g) where
+    pub lost-stuck : u ≡ true → true ≡ isLostEntry s rows late N c e
+    unfolding isLostEntry isKeptEntry
+    lost-stuck y = rw (← goal, ← out, n, ← stuck, y)
+
+    pub lost-symbol : u ≡ false → (m : NewSymbol) → m ≡ symbolIn s N (e .«r_info») → (b : Bool) → b ≡ isInResult m → not b ≡ isLostEntry s rows late N c e
+    unfolding isLostEntry isKeptEntry
+    lost-symbol f m is b q = rw (← goal, ← out, n, ← stuck, f, ← is, ← q)
+
+-- ---- tables
+
+module _ (o : ByteOrder) (F : List ℕ) (t : ℕ) where
+  pub table-read : (v : View) → v ≡ viewOf o F → (h : SectionHeader) → h ≡ section o F t → (c : ℕ) → c ≡ codeIn v (h .«sh_info») → (z : ℕ) → z ≡ entrySize o F t
+      → _≡_ {A = EntryTable} (record { index = t; code = c; size = z }) (entryTableOf o F t)
+  unfolding entryTableOf
+  table-read v r h is c e z q = rw (e, code-is o F v r (h .«sh_info»), is, q)
+
+  module _ (r : Bool) (b : Bool) where
+    pub tables-compiled : b ≡ true → r ≡ isTable o F t → (r ≡ pickTables b (isTable o F) (isCarried o F) t) × (r ≡ true → isTable o F t ≡ true)
+    tables-compiled y e = (rw y e, λ q. sym e ∙ q)
+
+    carried-table : isCarried o F t ≡ true → isTable o F t ≡ true
+    unfolding isCarried
+    carried-table y = table-kind o F t (and-parts (isSourceTable o F t) _ y .0)
+
+    pub tables-assembled : b ≡ false → r ≡ isCarried o F t → (r ≡ pickTables b (isTable o F) (isCarried o F) t) × (r ≡ true → isTable o F t ≡ true)
+    tables-assembled n e = (rw n e, λ q. carried-table (sym e ∙ q))
+
+-- entry k of a table in hand is kept
+module _ (F : List ℕ) (s : Side) (rows late : List ℕ) (table : EntryTable) (k : ℕ) where
+  pub kept-read : table ≡ entryTableOf (s .order) F (table .index) → (e : RelocationEntry) → e ≡ relocation (s .order) F (table .index) k
+      → (g : Goal) → g ≡ goalIn s rows late (table .code) (e .«r_offset») → (t : Bool) → t ≡ isLeftOut g → not t ≡ isKeptIn F s rows late (table .index) k
+  unfolding isKeptIn isKeptEntry entryTableOf
+  kept-read is e entry g goal t out =
+      let code : table .code ≡ codeOf (s .order) F (section (s .order) F (table .index) .«sh_info») = ap (λ (x : EntryTable). x .code) is in
+      rw (← code, ← entry, ← goal, ← out)

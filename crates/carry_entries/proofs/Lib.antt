@@ -1,0 +1,4 @@
+pub mod Goals
+pub mod Entries
+pub mod InHand
+pub mod Positions

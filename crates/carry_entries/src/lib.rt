@@ -1,0 +1,462 @@
+// The entries of an object's relocation tables in the result, and refusal 20 (specs/Entries.antt). Each function equals its definition over what is in hand (specs/Code.antt);
+// proofs/InHand.antt says what that is of C, A and the block file. Document 01, "Carrying".
+ghost use mathlib.Core.Path.{_≡_};
+ghost use mathlib.Core.Bool.{true, cond, _&&_};
+ghost use Prim.Native.Nat.{_+_, _≤_, _<_, min};
+ghost use lib.ListN.{length};
+ghost use Rattle.base_lists.specs.Windows.{spliced};
+ghost use Rattle.base_packed.specs.Packed.{kindOf, relocationInfo};
+ghost use Rattle.base_scope.specs.Codes.{leavesOut, isLateTarget};
+ghost use Rattle.elf_readers.specs.Readers.{sectionCount};
+ghost use Rattle.elf_relocations.specs.Relocations.{isTable, relocationCount, relocation};
+ghost use Rattle.elf_check.specs.View.{Viewed};
+ghost use Rattle.blocks_spans.specs.Spans.{replacedWord};
+ghost use Rattle.blocks_spans.specs.Table.{spansIn, Rows};
+ghost use Rattle.late_lookups.specs.Fields.{offsetAt, jumpAt};
+ghost use Rattle.symbols_taken.specs.Code.{LateIn};
+ghost use Rattle.carry_clash.specs.Clash.{isCarried};
+ghost use Rattle.carry_entries.specs.declared.Goal.the-variants.{Unmoved};
+ghost use Rattle.carry_entries.specs.Entries.{isLeftOut, isStuck, goalPlace, isInResult, newNumber, OFFSETS, carriedBytes, isLost, lossIn, lossFinding};
+ghost use Rattle.carry_entries.specs.Carried.{pickGoal};
+ghost use Rattle.carry_entries.specs.Code.{lateGoal, pickTables, isGoneIn, goalIn, carryingIn, isKeptIn, symbolIn, isLostEntry, carriedTo};
+ghost use Rattle.carry_entries.specs.Code.{keptIn, broughtBytes, entryTableOf, TableRead, GoalsRead, SymbolsRead, EntriesRead};
+use base_fields::ByteOrder;
+use base_packed::MergedSymbol;
+use base_scope::Finding;
+use elf_check::View;
+use elf_records::RelocationEntry;
+use late_lookups::LatePlace;
+use symbols_numbers::NewSymbol;
+
+// Offsets are below.
+const OFFSETS: usize = 4294967296;
+
+// Where an entry goes: to a place, or nowhere: its word is written anew, or its late word is not moved.
+pub enum Goal {
+    To(u32),
+    LeftOut,
+    Unmoved,
+}
+
+// What is in hand of an object whose entries are carried: whether it is C, its byte order and view; how many spans .text has; whether the late step runs, and over how many
+// blocks; and the id of its symbol 0.
+pub struct Side {
+    pub compiled: bool,
+    pub order: ByteOrder,
+    pub view: View,
+    pub spans: usize,
+    pub runs: bool,
+    pub blocks: usize,
+    pub first: usize,
+}
+
+// A relocation table: its section, the code of the section that it relocates, and the bytes of an entry.
+struct EntryTable {
+    pub index: usize,
+    pub code: u32,
+    pub size: usize,
+}
+
+// Whether a word starts at offset x of the section of a code that a block's copy replaces; entries for it are left out.
+fn is_replaced(side: Side, rows: &[u8], code: u32, x: u32) -> bool
+    requires { ⌜ Rows (now rows) (side .spans) ⌝ }
+    ensures { λ r. ⌜ r ≡ (leavesOut code && replacedWord (spansIn (now (rows .entry)) (side .spans)) x) ⌝ }
+{
+    if base_scope::leaves_out(code) {
+        let n = side.spans;
+        return blocks_spans::is_replaced(rows, n, x as usize);
+    }
+    false
+}
+
+// Whether a word of a jump table is at offset x of the section of a code.
+fn is_jump(side: Side, late: &[u8], code: u32, x: u32) -> bool
+    requires { ⌜ LateIn (side .runs) (now late) (side .blocks) ⌝ }
+    ensures { λ r. ⌜ r ≡ (isLateTarget code && (side .runs && jumpAt (now (late .entry)) (side .blocks) x)) ⌝ }
+{
+    if base_scope::is_late_target(code) {
+        if side.runs {
+            let n = side.blocks;
+            return late_lookups::jump_at(late, n, x);
+        }
+        return false;
+    }
+    false
+}
+
+// Whether the word at offset x of C's section of a code is written anew.
+fn is_gone(side: Side, rows: &[u8], late: &[u8], code: u32, x: u32) -> bool
+    requires { ⌜ Rows (now rows) (side .spans) × LateIn (side .runs) (now late) (side .blocks) ⌝ }
+    ensures { λ r. ⌜ r ≡ isGoneIn side (now (rows .entry)) (now (late .entry)) code x ⌝ }
+{
+    if is_replaced(side, rows, code, x) {
+        return true;
+    }
+    is_jump(side, late, code, x)
+}
+
+// Where a late offset goes, by the table of `blocks` blocks: nowhere if the late step does not run, and the table is not read then.
+fn late_goal(runs: bool, late: &[u8], blocks: usize, x: u32) -> Goal
+    requires { ⌜ LateIn runs (now late) blocks ⌝ }
+    ensures { λ r. ⌜ r ≡ pickGoal runs (lateGoal (offsetAt (now (late .entry)) blocks x)) Unmoved ⌝ }
+{
+    if runs {
+        return match late_lookups::offset_at(late, blocks, x) {
+            LatePlace::Moved(place) => Goal::To(place as u32),
+            LatePlace::Unmoved => Goal::Unmoved,
+        };
+    }
+    Goal::Unmoved
+}
+
+// Where an entry at offset x of the section of a code goes.
+fn goal_of(side: Side, rows: &[u8], late: &[u8], code: u32, x: u32) -> Goal
+    requires { ⌜ Rows (now rows) (side .spans) × LateIn (side .runs) (now late) (side .blocks) ⌝ }
+    ensures { λ r. ⌜ r ≡ goalIn side (now (rows .entry)) (now (late .entry)) code x ⌝ }
+{
+    if side.compiled {
+        if is_gone(side, rows, late, code, x) {
+            return Goal::LeftOut;
+        }
+        return Goal::To(x);
+    }
+    if code == base_scope::LATE_RODATA {
+        return late_goal(side.runs, late, side.blocks, x);
+    }
+    Goal::To(x)
+}
+
+// Whether an entry that goes there is left out.
+fn is_left_out(goal: Goal) -> bool
+    ensures { λ r. ⌜ r ≡ isLeftOut goal ⌝ }
+{
+    match goal {
+        Goal::LeftOut => true,
+        Goal::To(_) => false,
+        Goal::Unmoved => false,
+    }
+}
+
+// Whether its late word is not moved.
+fn is_stuck(goal: Goal) -> bool
+    ensures { λ r. ⌜ r ≡ isStuck goal ⌝ }
+{
+    match goal {
+        Goal::Unmoved => true,
+        Goal::To(_) => false,
+        Goal::LeftOut => false,
+    }
+}
+
+// The place, where there is one.
+fn goal_place(goal: Goal) -> u32
+    ensures { λ r. ⌜ r ≡ goalPlace goal ⌝ }
+{
+    match goal {
+        Goal::To(x) => x,
+        Goal::LeftOut => 0,
+        Goal::Unmoved => 0,
+    }
+}
+
+// What the symbol of an r_info becomes. C's symbols and A's are of different types.
+fn symbol_of(side: Side, numbers: &[u8], info: u32) -> NewSymbol
+    requires { ⌜ SymbolsRead side (now numbers) ⌝ }
+    ensures { λ r. ⌜ r ≡ symbolIn side (now (numbers .entry)) info ⌝ }
+{
+    let view = side.view;
+    let symbols = view.symbols;
+    let count = symbols.count;
+    if side.compiled {
+        return symbols_numbers::new_of_c(numbers, count, base_packed::compiled_symbol(info));
+    }
+    let first = side.first;
+    symbols_numbers::new_of_a(numbers, first, count, base_packed::assembled_symbol(info))
+}
+
+// Whether a symbol is in the result.
+fn is_in_result(symbol: NewSymbol) -> bool
+    ensures { λ r. ⌜ r ≡ isInResult symbol ⌝ }
+{
+    match symbol {
+        NewSymbol::Merged(_) => true,
+        NewSymbol::Gone => false,
+    }
+}
+
+// Its index there, where it is.
+fn merged_symbol(symbol: NewSymbol) -> MergedSymbol
+    ensures { λ r. ⌜ r .0 ≡ newNumber symbol ⌝ }
+{
+    match symbol {
+        NewSymbol::Merged(m) => m,
+        NewSymbol::Gone => MergedSymbol(0),
+    }
+}
+
+// The r_info in the result: the symbol's new index and the old kind.
+fn carried_info(side: Side, numbers: &[u8], info: u32) -> u32
+    requires { ⌜ SymbolsRead side (now numbers) ⌝ }
+    ensures { λ r. ⌜ r ≡ relocationInfo (newNumber (symbolIn side (now (numbers .entry)) info)) (kindOf info) ⌝ }
+{
+    let symbol = merged_symbol(symbol_of(side, numbers, info));
+    base_packed::relocation_info(symbol, base_packed::kind_of(info))
+}
+
+// The entry of the result, of one that goes to `goal`.
+fn carried_entry(side: Side, numbers: &[u8], goal: Goal, entry: RelocationEntry) -> RelocationEntry
+    requires { ⌜ SymbolsRead side (now numbers) ⌝ }
+    ensures { λ r. ⌜ r ≡ carriedTo side (now (numbers .entry)) goal entry ⌝ }
+{
+    let addend = entry.r_addend;
+    RelocationEntry {
+        r_offset: goal_place(goal),
+        r_info: carried_info(side, numbers, entry.r_info),
+        r_addend: addend,
+    }
+}
+
+// Whether an entry for the section of a code is lost: its late word is not moved, or its symbol is not in the result.
+fn is_lost(
+    side: Side,
+    rows: &[u8],
+    late: &[u8],
+    numbers: &[u8],
+    code: u32,
+    entry: RelocationEntry,
+) -> bool
+    requires { ⌜ Rows (now rows) (side .spans) × LateIn (side .runs) (now late) (side .blocks) × SymbolsRead side (now numbers) ⌝ }
+    ensures { λ r. ⌜ r ≡ isLostEntry side (now (rows .entry)) (now (late .entry)) (now (numbers .entry)) code entry ⌝ }
+{
+    let goal = goal_of(side, rows, late, code, entry.r_offset);
+    if is_left_out(goal) {
+        return false;
+    }
+    if is_stuck(goal) {
+        return true;
+    }
+    !is_in_result(symbol_of(side, numbers, entry.r_info))
+}
+
+// Table t.
+fn table_at(file: &[u8], side: Side, t: usize) -> EntryTable
+    requires { ⌜ Viewed (side .order) (now file) (side .view) × (t < sectionCount (side .order) (now file)) ⌝ }
+    ensures { λ r. ⌜ r ≡ entryTableOf (side .order) (now (file .entry)) t ⌝ }
+{
+    let order = side.order;
+    let h = elf_readers::section_at(order, file, t);
+    let code = symbols_taken::code_of(side.view, h.sh_info as usize);
+    let size = elf_relocations::entry_size(order, file, t);
+    EntryTable {
+        index: t,
+        code,
+        size,
+    }
+}
+
+// Whether entry k of a table is kept.
+fn is_kept(file: &[u8], side: Side, rows: &[u8], late: &[u8], table: EntryTable, k: usize) -> bool
+    requires { ⌜ GoalsRead (now file) side (now rows) (now late) × TableRead (side .order) (now file) table
+        × (k < relocationCount (side .order) (now file) (table .index)) ⌝ }
+    ensures { λ r. ⌜ r ≡ isKeptIn (now (file .entry)) side (now (rows .entry)) (now (late .entry)) (table .index) k ⌝ }
+{
+    let order = side.order;
+    let t = table.index;
+    let entry = elf_relocations::relocation_at(order, file, t, k);
+    !is_left_out(goal_of(side, rows, late, table.code, entry.r_offset))
+}
+
+// What an entry adds to the number of those that are kept.
+fn one_if(kept: bool) -> usize
+    ensures { λ r. ⌜ (r ≡ cond kept 1 0) × (r ≤ 1) ⌝ }
+{
+    if kept { 1 } else { 0 }
+}
+
+// How many entries of table t are kept.
+pub fn kept_count(file: &[u8], side: Side, rows: &[u8], late: &[u8], t: usize) -> usize
+    requires { ⌜ GoalsRead (now file) side (now rows) (now late) × (t < sectionCount (side .order) (now file))
+        × (isTable (side .order) (now file) t ≡ true) ⌝ }
+    ensures { λ r. ⌜ r ≡ keptIn (now (file .entry)) side (now (rows .entry)) (now (late .entry)) t ⌝ }
+{
+    let order = side.order;
+    let table = table_at(file, side, t);
+    let n = elf_relocations::relocation_count(order, file, t);
+    let mut kept: usize = 0;
+    let mut k: usize = 0;
+    while k < n {
+        kept += one_if(is_kept(file, side, rows, late, table, k));
+        k += 1;
+    }
+    kept
+}
+
+// Writes what entry k of a table brings at `at`, and answers where it ends.
+fn write_entry(
+    out: &mut [u8],
+    at: usize,
+    file: &[u8],
+    side: Side,
+    rows: &[u8],
+    late: &[u8],
+    numbers: &[u8],
+    table: EntryTable,
+    k: usize,
+) -> usize
+    requires { ⌜ EntriesRead (now file) side (now rows) (now late) (now numbers) × TableRead (side .order) (now file) table
+        × (k < relocationCount (side .order) (now file) (table .index))
+        × (at + length (broughtBytes (side .order) (now file) (carryingIn (now file) side (now rows) (now late) (now numbers)) (table .index) k) ≤ length (now out)) ⌝ }
+    ensures { λ r. ⌜ (now (out .exit) ≡ spliced (now (out .entry)) at
+        (broughtBytes (side .order) (now (file .entry)) (carryingIn (now (file .entry)) side (now (rows .entry)) (now (late .entry)) (now (numbers .entry))) (table .index) k))
+        × (r ≡ at + length
+        (broughtBytes (side .order) (now (file .entry)) (carryingIn (now (file .entry)) side (now (rows .entry)) (now (late .entry)) (now (numbers .entry))) (table .index) k)) ⌝ }
+{
+    let order = side.order;
+    let t = table.index;
+    let entry = elf_relocations::relocation_at(order, file, t, k);
+    let goal = goal_of(side, rows, late, table.code, entry.r_offset);
+    if is_left_out(goal) {
+        return at;
+    }
+    let carried = carried_entry(side, numbers, goal, entry);
+    carried.write(order, out, at);
+    at + table.size
+}
+
+// Writes the entries of table t that are kept, one behind the other from `at` on, and answers where they end.
+pub fn write_entries(
+    out: &mut [u8],
+    at: usize,
+    file: &[u8],
+    side: Side,
+    rows: &[u8],
+    late: &[u8],
+    numbers: &[u8],
+    t: usize,
+) -> usize
+    requires { ⌜ EntriesRead (now file) side (now rows) (now late) (now numbers) × (t < sectionCount (side .order) (now file))
+        × (isTable (side .order) (now file) t ≡ true)
+        × (at + length (carriedBytes (side .order) (now file) (carryingIn (now file) side (now rows) (now late) (now numbers)) t) ≤ length (now out)) ⌝ }
+    ensures { λ r. ⌜ (now (out .exit) ≡ spliced (now (out .entry)) at
+        (carriedBytes (side .order) (now (file .entry)) (carryingIn (now (file .entry)) side (now (rows .entry)) (now (late .entry)) (now (numbers .entry))) t))
+        × (r ≡ at + length
+        (carriedBytes (side .order) (now (file .entry)) (carryingIn (now (file .entry)) side (now (rows .entry)) (now (late .entry)) (now (numbers .entry))) t)) ⌝ }
+{
+    let order = side.order;
+    let table = table_at(file, side, t);
+    let n = elf_relocations::relocation_count(order, file, t);
+    let mut next = at;
+    let mut k: usize = 0;
+    while k < n {
+        next = write_entry(out, next, file, side, rows, late, numbers, table, k);
+        k += 1;
+    }
+    next
+}
+
+// The lower of `best` and the offset of entry k of a table, where that is lost.
+fn lower_loss(
+    file: &[u8],
+    side: Side,
+    rows: &[u8],
+    late: &[u8],
+    numbers: &[u8],
+    table: EntryTable,
+    k: usize,
+    best: usize,
+) -> usize
+    requires { ⌜ EntriesRead (now file) side (now rows) (now late) (now numbers) × TableRead (side .order) (now file) table
+        × (k < relocationCount (side .order) (now file) (table .index)) ⌝ }
+    ensures { λ r. ⌜ r ≡ cond
+        (isLost (side .order) (now (file .entry)) (carryingIn (now (file .entry)) side (now (rows .entry)) (now (late .entry)) (now (numbers .entry))) (table .index) k)
+        (min (relocation (side .order) (now (file .entry)) (table .index) k .«r_offset») best) best ⌝ }
+{
+    let order = side.order;
+    let t = table.index;
+    let entry = elf_relocations::relocation_at(order, file, t, k);
+    let x = entry.r_offset as usize;
+    if x < best {
+        if is_lost(side, rows, late, numbers, table.code, entry) {
+            return x;
+        }
+        return best;
+    }
+    best
+}
+
+// The lower of `best` and the lowest offset of a lost entry of table t.
+fn loss_in(
+    file: &[u8],
+    side: Side,
+    rows: &[u8],
+    late: &[u8],
+    numbers: &[u8],
+    t: usize,
+    best: usize,
+) -> usize
+    requires { ⌜ EntriesRead (now file) side (now rows) (now late) (now numbers) × (t < sectionCount (side .order) (now file))
+        × (isTable (side .order) (now file) t ≡ true) × (best ≤ OFFSETS) ⌝ }
+    ensures { λ r. ⌜ r ≡ min
+        (lossIn (side .order) (now (file .entry)) (carryingIn (now (file .entry)) side (now (rows .entry)) (now (late .entry)) (now (numbers .entry))) t) best ⌝ }
+{
+    let order = side.order;
+    let table = table_at(file, side, t);
+    let n = elf_relocations::relocation_count(order, file, t);
+    let mut lowest = best;
+    let mut k: usize = 0;
+    while k < n {
+        lowest = lower_loss(file, side, rows, late, numbers, table, k, lowest);
+        k += 1;
+    }
+    lowest
+}
+
+// Whether the entries of section t are carried: it is one of C's tables, or one of A's for a section of the five that holds bytes.
+fn is_carrying(file: &[u8], side: Side, t: usize) -> bool
+    requires { ⌜ Viewed (side .order) (now file) (side .view) × (t < sectionCount (side .order) (now file)) ⌝ }
+    ensures { λ r. ⌜ (r ≡ pickTables (side .compiled) (isTable (side .order) (now (file .entry))) (isCarried (side .order) (now (file .entry))) t)
+        × (r ≡ true → isTable (side .order) (now (file .entry)) t ≡ true) ⌝ }
+{
+    let order = side.order;
+    if side.compiled {
+        return elf_relocations::is_table(order, file, t);
+    }
+    carry_clash::is_carried(order, file, side.view, t)
+}
+
+// The same over section t, whether it is carried or not.
+fn loss_of(
+    file: &[u8],
+    side: Side,
+    rows: &[u8],
+    late: &[u8],
+    numbers: &[u8],
+    t: usize,
+    best: usize,
+) -> usize
+    requires { ⌜ EntriesRead (now file) side (now rows) (now late) (now numbers) × (t < sectionCount (side .order) (now file)) × (best ≤ OFFSETS) ⌝ }
+    ensures { λ r. ⌜ r ≡ cond (carryingIn (now (file .entry)) side (now (rows .entry)) (now (late .entry)) (now (numbers .entry)) .tables t)
+        (min (lossIn (side .order) (now (file .entry)) (carryingIn (now (file .entry)) side (now (rows .entry)) (now (late .entry)) (now (numbers .entry))) t) best) best ⌝ }
+{
+    if is_carrying(file, side, t) {
+        return loss_in(file, side, rows, late, numbers, t, best);
+    }
+    best
+}
+
+// Refusal 20 of one object: the lowest offset of a lost entry.
+pub fn loss_fault(file: &[u8], side: Side, rows: &[u8], late: &[u8], numbers: &[u8]) -> Finding
+    requires { ⌜ EntriesRead (now file) side (now rows) (now late) (now numbers) ⌝ }
+    ensures { λ r. ⌜ r ≡ lossFinding (side .order) (now (file .entry))
+        (carryingIn (now (file .entry)) side (now (rows .entry)) (now (late .entry)) (now (numbers .entry))) ⌝ }
+{
+    let view = side.view;
+    let n = view.sections;
+    let mut best = OFFSETS;
+    let mut t: usize = 0;
+    while t < n {
+        best = loss_of(file, side, rows, late, numbers, t, best);
+        t += 1;
+    }
+    base_scope::found_below(OFFSETS, best)
+}
