@@ -1,0 +1,3 @@
+pub mod Object
+pub mod Steps
+pub mod Own
