@@ -1,7 +1,7 @@
 -- How long strings are, the turns of the loop over the statics, and that the strings of a table's rows are those of its statics. Assumes nothing.
 use Prim.Native.Nat.{ℕ, _+_, _-_, _≤_, _<_}
 use mathlib.Core.Path.{_≡_, refl, sym, ap, _∙_}
-use mathlib.Core.Bool.{true, false}
+use mathlib.Core.Bool.{true}
 use mathlib.Core.List.{List, [], _∷_, _++_, append-assoc}
 use native.Mathlib.Omega.{arith}
 use lib.Dec.{eqb}
@@ -14,7 +14,6 @@ use Rattle.base_lists.proofs.Strings.{name-short}
 use Rattle.base_lists.proofs.Written.{written-none, written-then, written-as}
 use Rattle.base_fields.specs.declared.ByteOrder.{ByteOrder}
 use Rattle.base_scope.specs.Text.{text}
-use Rattle.base_text.specs.Decimals.{decimalText}
 use Rattle.base_text.proofs.Decimals.{decimal-short}
 use Rattle.elf_symbols.specs.declared.SymbolTable.{SymbolTable}
 use Rattle.elf_symbols.specs.Symbols.{symbolStrings}

@@ -1,6 +1,5 @@
 // The strings of the result's symbols, appended from C, A, the path and the table of statics; no name stands in a buffer of its own. Each function says `Written` of a definition
 // in specs/Strings.antt: strings that do not fit are counted and not written.
-ghost use mathlib.Core.Path.{_≡_};
 ghost use Prim.Native.Nat.{_+_, _*_, _^_, _≤_, _<_};
 ghost use lib.ListN.{length};
 ghost use Rattle.base_lists.specs.Written.{Written};

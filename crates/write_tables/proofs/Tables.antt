@@ -1,14 +1,14 @@
 -- How long a table's entries are, and the turns of the loop over the rows of homes. Assumes nothing.
-use Prim.Native.Nat.{ℕ, _+_, _*_, _/_, _^_, _≤_, _<_}
-use mathlib.Core.Path.{_≡_, refl, sym, ap, _∙_}
-use mathlib.Core.Bool.{Bool, true, false}
+use Prim.Native.Nat.{ℕ, _+_, _*_, _/_, _≤_, _<_}
+use mathlib.Core.Path.{_≡_, sym, ap, _∙_}
+use mathlib.Core.Bool.{true}
 use mathlib.Core.Logic.{_⊎_, ⊎-elim}
 use mathlib.Core.List.{List, [], _++_, append-nil}
 use native.Mathlib.Omega.{arith}
 use lib.ListN.{length}
 use lib.Dec.{eqb}
 use borrow.Author.Tests.{eq-eqb, ne-eqb}
-use Rattle.base_lists.specs.Ranges.{count, gather}
+use Rattle.base_lists.specs.Ranges.{count}
 use Rattle.base_lists.specs.Written.{Written}
 use Rattle.base_lists.proofs.Ranges.{by-test, count-le, gather-zero, gather-yes, gather-no, gather-same}
 use Rattle.base_lists.proofs.Written.{written-none, written-then, written-as}
@@ -21,7 +21,7 @@ use Rattle.carry_entries.specs.declared.Side.{Side}
 use Rattle.carry_entries.specs.Entries.{Carrying, isKept, keptCount, carriedBytes}
 use Rattle.carry_entries.specs.Code.{carryingIn, keptIn, GoalsRead}
 use Rattle.carry_entries.proofs.Entries.{carried-long, kept-is}
-use Rattle.carry_homes.specs.Homes.{carriedCount, homeOf, joinedBytes}
+use Rattle.carry_homes.specs.Homes.{carriedCount, joinedBytes}
 use Rattle.carry_homes.specs.Code.{listedTable, homeIn, HomesListed}
 use Rattle.write_tables.specs.Tables.{broughtBy, joinedIn}
 

@@ -1,5 +1,4 @@
 -- The written name, then a zero byte. Assumes nothing.
-use Prim.Native.Nat.{_+_, _≤_}
 use native.Mathlib.Omega.{arith}
 use denote.Ref.{now}
 use Rattle.base_lists.proofs.Written.{written-then, written-as}

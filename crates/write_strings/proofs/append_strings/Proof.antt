@@ -1,6 +1,4 @@
 -- C's strings, A's, then those of the statics, each end below 2 ^ 62. Assumes nothing.
-use Prim.Native.Nat.{_+_, _≤_}
-use mathlib.Core.Path.{_≡_, ap, sym, _∙_}
 use native.Mathlib.Omega.{arith}
 use denote.Ref.{now}
 use Rattle.base_lists.proofs.Written.{written-then, written-as}

@@ -1,6 +1,4 @@
 -- The entries are counted first, and written where they fit. Assumes nothing.
-use Prim.Native.Nat.{_+_, _*_, _≤_, _<_}
-use mathlib.Core.Path.{_≡_, sym, _∙_}
 use native.Mathlib.Omega.{arith}
 use denote.Ref.{now}
 use Rattle.base_lists.proofs.Written.{written-copy, written-short}

@@ -1,12 +1,8 @@
 -- The entries of a table whose home the section is; none of another. Assumes nothing.
-use Prim.Native.Nat.{_+_, _*_, _≤_, _<_}
-use mathlib.Core.Path.{_≡_, sym, ap, _∙_}
-use mathlib.Core.Bool.{true}
+use mathlib.Core.Path.{sym, ap, _∙_}
 use native.Mathlib.Omega.{arith}
 use denote.Ref.{now}
 use Rattle.base_lists.proofs.Written.{written-none, written-as}
-use Rattle.elf_readers.specs.Readers.{sectionCount}
-use Rattle.elf_relocations.specs.Relocations.{isTable}
 use Rattle.carry_entries.specs.Entries.{carriedBytes}
 use Rattle.carry_entries.specs.Code.{carryingIn}
 use Rattle.write_tables.proofs.Tables.{brought-here, brought-none}
