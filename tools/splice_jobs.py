@@ -8,7 +8,7 @@
 
 A job is a compiled object, an assembled one and a block file, a path, a statics mode and a drop flag, and the lengths of the output and of the working buffers. What is
 expected comes from the model of document 01 (MODEL, by default ../shared/model): the refusals of lengths, of both objects, of the block file and of places, then 10 to
-19 and 21; or the bytes that the merge writes over C's .text, .data, .rodata and .reginfo, one behind the other, the number of local entries of the result's symbol table,
+21; or the bytes that the merge writes over C's .text, .data, .rodata and .reginfo, one behind the other, the number of local entries of the result's symbol table,
 and that table. Real jobs come from Debian's gcc-mips-linux-gnu and binutils-mips-linux-gnu, where the model's draft is assembled, and from CASES (by default
 ../shared/cases/real.tar.xz); where either is not there, its jobs are those of the recorded list. The program has no say.
 """
@@ -300,7 +300,7 @@ def real_splices():
 # ---------------------------------------------------------------- what is expected
 
 def symbol_table(c, a, blocks, spans, live, late, path, mode):
-    """refusal 15, 16, 17, 18 or 19, or the number of local entries of the result's symbol table and that table"""
+    """refusal 15, 16, 17, 18, 19 or 20, or the number of local entries of the result's symbol table and that table"""
     r = model.refusal(15, model.faults_15(c, a)) or model.refusal(16, model.faults_16(a, late))
     if r:
         return r
@@ -312,6 +312,7 @@ def symbol_table(c, a, blocks, spans, live, late, path, mode):
         return 'refused', 17, 1, place
     listed = model.symbol_list(c, a, late, blocks, spans, live, statics, path, mode)
     r = model.refusal(18, model.faults_18(listed)) or model.refusal(19, model.faults_19(listed))
+    r = r or model.refusal(20, model.faults_20(c, a, spans, late, model.new_indices(listed)))
     if r:
         return r
     order = [listed[p].symbol for p in model.result_order(listed)]
@@ -477,7 +478,7 @@ def row_of(job, number, who, place):
 
 
 def later_refusal(job):
-    """whether the model refuses an accepted job by 20 or the 17 of a moved debug section, which these stages do not have"""
+    """whether the model refuses an accepted job by the 17 of a moved debug section, which these stages do not have"""
     return model.merge(*job[:4], job.flag, job.mode)[0] == 'refused'
 
 
@@ -509,7 +510,7 @@ class Beside:
         if kind != 0 and not_for_rust(job):
             return f'accepted here, left out: {not_for_rust(job)}', True
         words = 'merged otherwise' if kind == 0 else 'not merged'
-        return f'accepted here, {words} by the Rust, left out: refused by 17 or 20 of the whole merge', later_refusal(job)
+        return f'accepted here, {words} by the Rust, left out: refused by the 17 of a moved debug section', later_refusal(job)
 
     def hold(self, name, job, got):
         """counts a job; prints it where the Rust differs for a reason on no list"""

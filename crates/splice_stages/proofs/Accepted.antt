@@ -15,7 +15,7 @@ use Rattle.base_scope.specs.declared.Finding.the-variants.{Clear, At}
 use Rattle.base_scope.specs.Refusals.{LIMITS, LATE_STEP}
 use Rattle.base_scope.proofs.Refusals.{found-clear}
 use Rattle.base_answers.specs.declared.Verdict.{Verdict}
-use Rattle.base_answers.specs.declared.Verdict.the-variants.{Passed}
+use Rattle.base_answers.specs.declared.Verdict.the-variants.{Passed, Refused}
 use Rattle.base_answers.specs.Answers.{accepted, refused, NONE, COMPILED, roomFor}
 use Rattle.base_answers.specs.Verdicts.{also, ifPassed, findingVerdict}
 use Rattle.base_answers.proofs.Verdicts.{also-passed, also-refused, also-parts, if-passed, if-refused, if-accepted, room-accepted, limit-kept, limit-broken, limit-passed, finding-clear, finding-at, finding-passed}
@@ -50,7 +50,8 @@ use Rattle.symbols_stage.specs.declared.SymbolsEnd.{SymbolsEnd}
 use Rattle.symbols_stage.specs.declared.SymbolsEnd.the-variants.{Numbered, Refused as Unnumbered}
 use Rattle.symbols_stage.specs.End.{endVerdict}
 use Rattle.carry_clash.specs.Clash.{CLASH, clashFinding}
-use Rattle.splice_stages.specs.Verdict.{spliceBounds, isPath, spliceBytes, lateVerdict, stagesVerdict, carriedVerdict, symbolsAnswer, lateAnswer, stagesAnswer, carriedAnswer, spliceVerdict, StagesPassed}
+use Rattle.carry_entries.specs.Carried.{carryVerdict}
+use Rattle.splice_stages.specs.Verdict.{spliceBounds, isPath, spliceBytes, referencesVerdict, lateVerdict, stagesVerdict, carriedVerdict, entriesAnswer, symbolsAnswer, lateAnswer, stagesAnswer, carriedAnswer, spliceVerdict, StagesPassed}
 use Rattle.splice_stages.proofs.Limits.{splice-limits}
 
 fault-high : (o : ByteOrder) (P : List Place) (B R : List ℕ) → lateStepFault o P B R ≤ blockCount B
@@ -62,17 +63,28 @@ module _ (o : ByteOrder) (C A : List ℕ) (P : List Place) (B : List ℕ) (mode 
 
   module _ (e : SymbolsEnd) (is : endVerdict e ≡ symbolStagesVerdict o C A P B mode head) where
     pub answer-symbols : (n x p : ℕ) → e ≡ Unnumbered n x p → refused n x p ≡ symbolsAnswer o C A P B mode head room
-    unfolding symbolsAnswer endVerdict
-    answer-symbols n x p q = sym (if-refused _ _ n x p (sym is ∙ ap endVerdict q))
+    unfolding symbolsAnswer referencesVerdict endVerdict
+    answer-symbols n x p q = sym (if-refused _ _ n x p (also-refused _ _ n x p (sym is ∙ ap endVerdict q)))
 
-    pub answer-result : (c : Counts) → e ≡ Numbered c → roomFor (spliceBytes o C A P B mode head) room ≡ symbolsAnswer o C A P B mode head room
-    unfolding symbolsAnswer endVerdict
-    answer-result c q = sym (if-passed _ _ (sym is ∙ ap endVerdict q))
+    pub answer-numbered : (c : Counts) → e ≡ Numbered c → entriesAnswer o C A P B mode head room ≡ symbolsAnswer o C A P B mode head room
+    unfolding symbolsAnswer entriesAnswer referencesVerdict endVerdict
+    answer-numbered c q = sym (ap (λ (v : Verdict). ifPassed v (roomFor (spliceBytes o C A P B mode head) room)) (also-passed _ _ (sym is ∙ ap endVerdict q)))
+
+  -- ---- 20
+
+  module _ (v : Verdict) (is : v ≡ carryVerdict o C A P B mode head) where
+    pub answer-20 : (n x p : ℕ) → v ≡ Refused n x p → refused n x p ≡ entriesAnswer o C A P B mode head room
+    unfolding entriesAnswer
+    answer-20 n x p q = sym (if-refused _ _ n x p (sym is ∙ q))
+
+    pub answer-result : v ≡ Passed → roomFor (spliceBytes o C A P B mode head) room ≡ entriesAnswer o C A P B mode head room
+    unfolding entriesAnswer
+    answer-result q = sym (if-passed _ _ (sym is ∙ q))
 
   -- ---- 14
 
   module _ (f : Finding) (is : f ≡ lateFinding o C A P B) where
-    late-by : lateVerdict o C A P B mode head ≡ also (findingVerdict LATE_STEP COMPILED f) (symbolStagesVerdict o C A P B mode head)
+    late-by : lateVerdict o C A P B mode head ≡ also (findingVerdict LATE_STEP COMPILED f) (referencesVerdict o C A P B mode head)
     unfolding lateVerdict
     late-by = rw is
 
@@ -167,12 +179,14 @@ module _ (C A B path : List ℕ) (flag mode room table places steps index : ℕ)
         (limit-passed _ (b .0), b .1, c .0, d .0)
 
     stages : (clashFinding (orderOf C) C A flag ≡ Clear) × (lineUpVerdict (orderOf C) C A P B ≡ Passed) × (lateFinding (orderOf C) C A P B ≡ Clear) × (symbolStagesVerdict (orderOf C) C A P B mode head ≡ Passed)
-    unfolding carriedVerdict stagesVerdict lateVerdict
+        × (carryVerdict (orderOf C) C A P B mode head ≡ Passed)
+    unfolding carriedVerdict stagesVerdict lateVerdict referencesVerdict
     stages =
         let x = also-parts _ _ (tests .2) in
         let a = also-parts _ _ (x .1) in
         let b = also-parts _ _ (a .1) in
-        (finding-passed CLASH COMPILED _ (x .0), a .0, finding-passed LATE_STEP COMPILED _ (b .0), b .1)
+        let y = also-parts _ _ (b .1) in
+        (finding-passed CLASH COMPILED _ (x .0), a .0, finding-passed LATE_STEP COMPILED _ (b .0), y .0, y .1)
 
     no-fault : hasLateStep P B ≡ true
         → lateStepFault (orderOf C) P B (copied (spansOf P B LATE_TARGET) (codedContents (orderOf C) C LATE_TARGET) (codedContents (orderOf C) A LATE_TARGET)) ≡ blockCount B
@@ -196,6 +210,7 @@ module _ (C A B path : List ℕ) (flag mode room table places steps index : ℕ)
             agrees = agrees-of (orderOf C) C A P B (stages .1);
             moved = no-fault;
             symbols = stages .3;
+            carried = stages .4;
           },
           tests .3,
         )

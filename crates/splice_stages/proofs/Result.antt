@@ -41,6 +41,8 @@ use Rattle.symbols_stage.specs.declared.Counts.{Counts}
 use Rattle.symbols_stage.specs.declared.SymbolsEnd.{SymbolsEnd}
 use Rattle.symbols_stage.specs.declared.SymbolsEnd.the-variants.{Numbered}
 use Rattle.symbols_stage.specs.End.{fillingOf, numberingBy, SymbolsHeld, StageEnd}
+use Rattle.carry_stage.specs.declared.Carry.{Carry}
+use Rattle.carry_stage.specs.Carry.{CarryMade}
 use Rattle.splice_stages.specs.Verdict.{sectionPieces, spliceBytes}
 use Rattle.splice_stages.specs.Call.{spliceLength, stageIn, tableIn, resultIn, ResultReady}
 use Rattle.splice_stages.proofs.Sections.{splice-long}
@@ -147,27 +149,10 @@ module _ (C A B : List ℕ) (n : Numbering) (table places steps index : List ℕ
   pub room-unwritten : length out < whole → Written out 0 bytes whole out
   room-unwritten h = record { end = bytes-long; long = refl; bytes = λ q. absurd (omega (arith, bytes-long, h, q)) }
 
--- ---- what the symbols leave is all that the result is written by
+-- ---- what the symbols leave
 
 module _ (C A B : List ℕ) (s : Stage) (w : Manner) (r : SymbolsEnd) (table table1 places places1 steps steps1 index1 : List ℕ)
-    (x : StageEnd C A B s w r table table1 places places1 steps steps1 index1) (n : Counts) (q : r ≡ Numbered n) where
-  abbrev P : List Place
-  P = placesIn (placesPart places) (lineCount B)
-
-  abbrev t : Candidates
-  t = mergeCandidates (s .inputs .order) C A P B (w .mode) (w .head)
-
-  abbrev symbols : SymbolsHeld C A B P s w n table1 steps1 index1
-  symbols = x .held n q
-
-  pub held-after : (index : List ℕ) → BuffersHeld table places steps index → length index1 ≡ length index → BuffersHeld table1 places1 steps1 index1
-  held-after index b same = record {
-    table-long = rw (x .keptTable .long) (b .table-long);
-    places-long = rw (x .keptPlaces .long) (b .places-long);
-    steps-long = rw (x .keptSteps .long) (b .steps-long);
-    index-long = rw same (b .index-long);
-  }
-
+    (x : StageEnd C A B s w r table table1 places places1 steps steps1 index1) where
   blocks-1 : blocksPart table1 ≡ blocksPart table
   blocks-1 = kept-part ROWS_AT table table1 (x .keptTable) 0 BLOCK_TABLE (omega arith)
 
@@ -177,7 +162,44 @@ module _ (C A B : List ℕ) (s : Stage) (w : Manner) (r : SymbolsEnd) (table tab
   late-1 : lateStepPart steps1 ≡ lateStepPart steps
   late-1 = kept-part USED_AT steps steps1 (x .keptSteps) 0 LATE_TABLE (omega arith)
 
-  own : candidatesBy C A P B (staticsPart steps1) (numberingBy s w n .filling) ≡ t
+  pub places-after : placesIn (placesPart places1) (lineCount B) ≡ placesIn (placesPart places) (lineCount B)
+  places-after = rw places-1
+
+  pub read-after : StageRead C A B s (blocksPart table) (placesPart places) → StageRead C A B s (blocksPart table1) (placesPart places1)
+  read-after read = rw (blocks-1, places-1) read
+
+  pub moves-after : Movable C B s (placesIn (placesPart places) (lineCount B)) (lateStepPart steps) → Movable C B s (placesIn (placesPart places1) (lineCount B)) (lateStepPart steps1)
+  moves-after moves = rw (places-1, late-1) moves
+
+  pub symbols-after : (n : Counts) → r ≡ Numbered n → SymbolsHeld C A B (placesIn (placesPart places1) (lineCount B)) s w n table1 steps1 index1
+  symbols-after n q = rw places-1 (x .held n q)
+
+  pub held-after : (index : List ℕ) → BuffersHeld table places steps index → length index1 ≡ length index → BuffersHeld table1 places1 steps1 index1
+  held-after index b same = record {
+    table-long = rw (x .keptTable .long) (b .table-long);
+    places-long = rw (x .keptPlaces .long) (b .places-long);
+    steps-long = rw (x .keptSteps .long) (b .steps-long);
+    index-long = rw same (b .index-long);
+  }
+
+-- ---- and what carrying leaves
+
+pub places-carried : (C A B : List ℕ) (s : Stage) (flag : ℕ) (k : Carry) (places places1 index index1 : List ℕ) → CarryMade C A B s flag k places places1 index index1
+    → placesIn (placesPart places1) (lineCount B) ≡ placesIn (placesPart places) (lineCount B)
+places-carried C A B s flag k places places1 index index1 m = rw (kept-part HOLDERS_AT places places1 (m .keptPlaces) 0 PLACE_TABLE (omega arith))
+
+-- ---- is all that the result is written by
+
+module _ (C A B : List ℕ) (s : Stage) (w : Manner) (n : Counts) (table places steps index : List ℕ) (read : StageRead C A B s (blocksPart table) (placesPart places))
+    (moves : Movable C B s (placesIn (placesPart places) (lineCount B)) (lateStepPart steps))
+    (symbols : SymbolsHeld C A B (placesIn (placesPart places) (lineCount B)) s w n table steps index) (held : BuffersHeld table places steps index) where
+  abbrev P : List Place
+  P = placesIn (placesPart places) (lineCount B)
+
+  abbrev t : Candidates
+  t = mergeCandidates (s .inputs .order) C A P B (w .mode) (w .head)
+
+  own : candidatesBy C A P B (staticsPart steps) (numberingBy s w n .filling) ≡ t
   unfolding numberingBy fillingOf mergeCandidates
   own = rw (symbols .statics-are)
 
@@ -185,50 +207,48 @@ module _ (C A B : List ℕ) (s : Stage) (w : Manner) (r : SymbolsEnd) (table tab
   unfolding numberingBy
   counted = symbols .tables .counted ∙ ap mergedCount own
 
-  module _ (held : BuffersHeld table1 places1 steps1 index1) where
-    merged-few : length (merged t) ≤ ID_LIMIT
-    merged-few =
-        let o : 4 * length (merged t) ≤ length (orderPart index1) = rw (← own) (symbols .tables .ordered .long) in
-        omega (arith, o, part-long 0 POSITION_TABLE index1 (omega (arith, held .index-long)))
+  merged-few : length (merged t) ≤ ID_LIMIT
+  merged-few =
+      let o : 4 * length (merged t) ≤ length (orderPart index) = rw (← own) (symbols .tables .ordered .long) in
+      omega (arith, o, part-long 0 POSITION_TABLE index (omega (arith, held .index-long)))
 
-    count-low : n .count ≤ ID_LIMIT + 1
-    unfolding mergedCount
-    count-low = omega (arith, counted, merged-few)
+  count-low : n .count ≤ ID_LIMIT + 1
+  unfolding mergedCount
+  count-low = omega (arith, counted, merged-few)
 
-    locals-low : n .locals ≤ ID_LIMIT + 1
-    unfolding localCount merged
-    locals-low =
-        let a = grouped-long (isMerged t) (groupAtPosition t) (length (listed t)) 2 in
-        let b = grouped-long (isMerged t) (groupAtPosition t) (length (listed t)) 3 in
-        omega (arith, symbols .locals-are, a, b, merged-few)
+  locals-low : n .locals ≤ ID_LIMIT + 1
+  unfolding localCount merged
+  locals-low =
+      let a = grouped-long (isMerged t) (groupAtPosition t) (length (listed t)) 2 in
+      let b = grouped-long (isMerged t) (groupAtPosition t) (length (listed t)) 3 in
+      omega (arith, symbols .locals-are, a, b, merged-few)
 
-    ready-by : StageRead C A B s (blocksPart table) (placesPart places) → Movable C B s P (lateStepPart steps) → ResultReady C A B (numberingBy s w n) table1 places1 steps1 index1
-    unfolding numberingBy fillingOf stageIn
-    ready-by read movable = record {
-      read = rw (blocks-1, places-1) read;
-      moves = rw (places-1, late-1) movable;
-      symbols = symbols-ready C A P B (staticsPart steps1) (lateStepPart steps1) (glabelsPart steps1) (idsPart table1) (listPart steps1) (orderPart index1) (symbols .positions) (numberingBy s w n) (symbols .tables);
-      held = held;
-      locals-few = locals-low;
-      count-few = count-low;
-    }
+  ready-by : ResultReady C A B (numberingBy s w n) table places steps index
+  unfolding numberingBy fillingOf stageIn
+  ready-by = record {
+    read = read;
+    moves = moves;
+    symbols = symbols-ready C A P B (staticsPart steps) (lateStepPart steps) (glabelsPart steps) (idsPart table) (listPart steps) (orderPart index) (symbols .positions) (numberingBy s w n) (symbols .tables);
+    held = held;
+    locals-few = locals-low;
+    count-few = count-low;
+  }
 
-    pub result-ready : (f : Filling) → f ≡ fillingOf s (w .mode) (n .statics) → StageRead C A B s (blocksPart table) (placesPart places) → Movable C B s P (lateStepPart steps)
-        → ResultReady C A B (record { filling = f; locals = n .locals; count = n .count }) table1 places1 steps1 index1
-    unfolding numberingBy
-    result-ready f e read movable = rw e (ready-by read movable)
+  pub result-ready : (f : Filling) → f ≡ fillingOf s (w .mode) (n .statics) → ResultReady C A B (record { filling = f; locals = n .locals; count = n .count }) table places steps index
+  unfolding numberingBy
+  result-ready f e = rw e ready-by
 
-  symbols-are : tableIn C A (numberingBy s w n) table1 steps1 index1 ≡ resultSymbols (s .inputs .order) C A P B (w .mode) (statics (s .inputs .order) C (w .mode) (w .head))
+  symbols-are : tableIn C A (numberingBy s w n) table steps index ≡ resultSymbols (s .inputs .order) C A P B (w .mode) (statics (s .inputs .order) C (w .mode) (w .head))
   unfolding numberingBy fillingOf
   symbols-are =
-      symbols-table C A P B (staticsPart steps1) (lateStepPart steps1) (glabelsPart steps1) (idsPart table1) (listPart steps1) (orderPart index1) (symbols .positions) (numberingBy s w n) (symbols .tables)
+      symbols-table C A P B (staticsPart steps) (lateStepPart steps) (glabelsPart steps) (idsPart table) (listPart steps) (orderPart index) (symbols .positions) (numberingBy s w n) (symbols .tables)
       ∙ ap (resultSymbols (s .inputs .order) C A P B (w .mode)) (symbols .statics-are)
 
-  bytes-by : resultIn C A B (numberingBy s w n) table1 places1 steps1 index1 ≡ spliceBytes (s .inputs .order) C A P B (w .mode) (w .head)
+  bytes-by : resultIn C A B (numberingBy s w n) table places steps index ≡ spliceBytes (s .inputs .order) C A P B (w .mode) (w .head)
   unfolding resultIn spliceBytes numberingBy fillingOf
-  bytes-by = rw (places-1, symbols-are, symbols .locals-are)
+  bytes-by = rw (symbols-are, symbols .locals-are)
 
   pub result-is : (f : Filling) → f ≡ fillingOf s (w .mode) (n .statics)
-      → resultIn C A B (record { filling = f; locals = n .locals; count = n .count }) table1 places1 steps1 index1 ≡ spliceBytes (s .inputs .order) C A P B (w .mode) (w .head)
+      → resultIn C A B (record { filling = f; locals = n .locals; count = n .count }) table places steps index ≡ spliceBytes (s .inputs .order) C A P B (w .mode) (w .head)
   unfolding numberingBy
   result-is f e = rw e bytes-by

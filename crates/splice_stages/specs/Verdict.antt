@@ -1,5 +1,5 @@
--- The stages of the merge up to its symbols, whole (document 01, "Order"): 1; the inputs, C by 2 to 6, 7, blocks by 8 and 9, A by 2 to 6; 10; 11, 12 and 13; 14; 15 to 19; then 21.
--- Refusal 20 comes with the relocations. The result is what is written over C's .text, .data, .rodata and .reginfo, one behind the other; then sh_info of the symbol
+-- The stages of the merge up to its symbols, whole (document 01, "Order"): 1; the inputs, C by 2 to 6, 7, blocks by 8 and 9, A by 2 to 6; 10; 11, 12 and 13; 14; 15 to 19; 20;
+-- then 21. The result is what is written over C's .text, .data, .rodata and .reginfo, one behind the other; then sh_info of the symbol
 -- table of the result as a word, and that table.
 use Prim.Native.Nat.{ℕ, _≤_}
 use mathlib.Core.Path.{_≡_}
@@ -37,6 +37,7 @@ use Rattle.symbols_ids.specs.Table.{resultSymbols}
 use Rattle.symbols_ids.specs.Ids.{mergeCandidates}
 use Rattle.symbols_stage.specs.Verdict.{symbolStagesVerdict}
 use Rattle.carry_clash.specs.Clash.{CLASH, clashFinding}
+use Rattle.carry_entries.specs.Carried.{carryVerdict}
 
 -- refusal 1 of this call: the lengths of C, A and the block file, the drop flag, the mode, and the lengths of the working buffers
 unfoldable pub spliceBounds : ℕ → ℕ → ℕ → ℕ → ℕ → ℕ → ℕ → ℕ → ℕ → List Bound
@@ -70,21 +71,28 @@ module _ (o : ByteOrder) (C A : List ℕ) (P : List Place) (B : List ℕ) where
     spliceBytes =
         sectionPieces ++ (encoded o 4 (localCount (mergeCandidates o C A P B mode head)) ++ resultSymbols o C A P B mode (statics o C mode head))
 
-    -- 14 to 19, behind the line-up
-    unfoldable pub lateVerdict : Verdict
-    lateVerdict = also (findingVerdict LATE_STEP COMPILED (lateFinding o C A P B)) (symbolStagesVerdict o C A P B mode head)
+    -- 15 to 20, behind the late step
+    unfoldable pub referencesVerdict : Verdict
+    referencesVerdict = also (symbolStagesVerdict o C A P B mode head) (carryVerdict o C A P B mode head)
 
-    -- 11 to 19, behind the inputs
+    -- 14 to 20, behind the line-up
+    unfoldable pub lateVerdict : Verdict
+    lateVerdict = also (findingVerdict LATE_STEP COMPILED (lateFinding o C A P B)) referencesVerdict
+
+    -- 11 to 20, behind the inputs
     unfoldable pub stagesVerdict : Verdict
     stagesVerdict = also (lineUpVerdict o C A P B) lateVerdict
 
-    -- 10 to 19: C's trailing debug sections are dropped by the flag
+    -- 10 to 20: C's trailing debug sections are dropped by the flag
     unfoldable pub carriedVerdict : ℕ → Verdict
     carriedVerdict flag = also (findingVerdict CLASH COMPILED (clashFinding o C A flag)) stagesVerdict
 
     -- and 21: room is the output's length
+    unfoldable pub entriesAnswer : ℕ → Answer
+    entriesAnswer room = ifPassed (carryVerdict o C A P B mode head) (roomFor spliceBytes room)
+
     unfoldable pub symbolsAnswer : ℕ → Answer
-    symbolsAnswer room = ifPassed (symbolStagesVerdict o C A P B mode head) (roomFor spliceBytes room)
+    symbolsAnswer room = ifPassed referencesVerdict (roomFor spliceBytes room)
 
     unfoldable pub lateAnswer : ℕ → Answer
     lateAnswer room = ifPassed lateVerdict (roomFor spliceBytes room)
@@ -120,3 +128,4 @@ module _ (C A B path : List ℕ) (flag mode : ℕ) where
         (copied (spansOf (placesOf (orderOf C) C B) B LATE_TARGET) (codedContents (orderOf C) C LATE_TARGET) (codedContents (orderOf C) A LATE_TARGET))
         ≡ blockCount B
     pub symbols : symbolStagesVerdict (orderOf C) C A (placesOf (orderOf C) C B) B mode (length (nameHead mode path)) ≡ Passed
+    pub carried : carryVerdict (orderOf C) C A (placesOf (orderOf C) C B) B mode (length (nameHead mode path)) ≡ Passed

@@ -16,9 +16,11 @@ ghost use Rattle.merge_buffers.specs.Buffers.{BLOCK_BUFFER, PLACE_BUFFER, STEP_
 ghost use Rattle.merge_inputs.specs.Taken.{Took, InputsRead};
 ghost use Rattle.merge_line_up.specs.Answer.{LinesUp};
 ghost use Rattle.merge_sections.specs.Stages.{StageRead, Movable, Searchable, Searched};
-ghost use Rattle.splice_stages.specs.Verdict.{isPathByte, isPath, spliceBounds, sectionPieces, carriedAnswer, stagesAnswer, lateAnswer, symbolsAnswer, spliceVerdict};
+ghost use Rattle.symbols_stage.specs.End.{SymbolsHeld};
+ghost use Rattle.splice_stages.specs.Verdict.{isPathByte, isPath, spliceBounds, sectionPieces, carriedAnswer, stagesAnswer, lateAnswer, symbolsAnswer, entriesAnswer, spliceVerdict};
 ghost use Rattle.splice_stages.specs.Call.{spliceLength, stageIn, tableIn, resultIn, TableReady, ResultReady, Spliced};
 use base_answers::Outcome;
+use base_answers::Verdict;
 use base_fields::ByteOrder;
 use base_scope::Finding;
 use elf_check::View;
@@ -27,6 +29,7 @@ use merge_line_up::LinedUp;
 use merge_sections::Stage;
 use open_inputs::Opened;
 use symbols_chain::Numbering;
+use symbols_stage::Counts;
 use symbols_stage::Manner;
 use symbols_stage::SymbolsEnd;
 
@@ -328,12 +331,68 @@ fn splice_room<'a>(
     base_answers::refusal(base_scope::OUTPUT_ROOM, base_answers::NONE, whole as u64)
 }
 
-// Refusals 15 to 19, then the result.
+// Refusal 20, then the result.
+fn splice_entries<'a>(
+    compiled: &'a [u8],
+    assembled: &'a [u8],
+    file: &[u8],
+    stage: Stage,
+    flag: u32,
+    manner: Manner,
+    counts: Counts,
+    out: &mut [u8],
+    table: &[u8],
+    places: &mut [u8],
+    steps: &[u8],
+    index: &mut [u8],
+) -> Outcome
+    requires { ⌜ StageRead (now compiled) (now assembled) (now file) stage (blocksPart (now table)) (placesPart (now places))
+        × Movable (now compiled) (now file) stage (placesIn (placesPart (now places)) (lineCount (now file))) (lateStepPart (now steps))
+        × SymbolsHeld (now compiled) (now assembled) (now file) (placesIn (placesPart (now places)) (lineCount (now file))) stage manner counts (now table) (now steps) (now index)
+        × BuffersHeld (now table) (now places) (now steps) (now index) ⌝ }
+    ensures { λ r. ⌜ Answered (entriesAnswer (stage .inputs .order) (now (compiled .entry)) (now (assembled .entry)) (placesIn (placesPart (now (places .entry))) (lineCount (now (file .entry)))) (now (file .entry)) (manner .mode) (manner .head) (length (now (out .entry)))) r (now (out .entry)) (now (out .exit)) ⌝ }
+{
+    let carry = carry_stage::carry_ready(
+        compiled,
+        assembled,
+        file,
+        stage,
+        flag,
+        table,
+        places,
+        index,
+    );
+    match carry_stage::carry_fault(compiled, assembled, stage, carry, steps, index) {
+        Verdict::Passed => {
+            let filling = symbols_stage::filling_of(stage, manner.mode, counts.statics);
+            let numbering = Numbering {
+                filling,
+                locals: counts.locals,
+                count: counts.count,
+            };
+            splice_room(
+                compiled,
+                assembled,
+                file,
+                numbering,
+                out,
+                table,
+                places,
+                steps,
+                index,
+            )
+        }
+        Verdict::Refused(number, object, place) => base_answers::refusal(number, object, place),
+    }
+}
+
+// Refusals 15 to 19, then 20.
 fn splice_symbols<'a>(
     compiled: &'a [u8],
     assembled: &'a [u8],
     file: &[u8],
     stage: Stage,
+    flag: u32,
     manner: Manner,
     out: &mut [u8],
     table: &mut [u8],
@@ -357,25 +416,20 @@ fn splice_symbols<'a>(
         steps,
         index,
     ) {
-        SymbolsEnd::Numbered(counts) => {
-            let filling = symbols_stage::filling_of(stage, manner.mode, counts.statics);
-            let numbering = Numbering {
-                filling,
-                locals: counts.locals,
-                count: counts.count,
-            };
-            splice_room(
-                compiled,
-                assembled,
-                file,
-                numbering,
-                out,
-                table,
-                places,
-                steps,
-                index,
-            )
-        }
+        SymbolsEnd::Numbered(counts) => splice_entries(
+            compiled,
+            assembled,
+            file,
+            stage,
+            flag,
+            manner,
+            counts,
+            out,
+            table,
+            places,
+            steps,
+            index,
+        ),
         SymbolsEnd::Refused(number, object, place) => base_answers::refusal(number, object, place),
     }
 }
@@ -406,6 +460,7 @@ fn splice_late<'a>(
     assembled: &'a [u8],
     file: &[u8],
     stage: Stage,
+    flag: u32,
     manner: Manner,
     out: &mut [u8],
     table: &mut [u8],
@@ -423,6 +478,7 @@ fn splice_late<'a>(
             assembled,
             file,
             stage,
+            flag,
             manner,
             out,
             table,
@@ -462,6 +518,7 @@ fn splice_stages<'a>(
     assembled: &'a [u8],
     file: &[u8],
     inputs: Inputs,
+    flag: u32,
     manner: Manner,
     out: &mut [u8],
     table: &mut [u8],
@@ -481,6 +538,7 @@ fn splice_stages<'a>(
                 assembled,
                 file,
                 stage,
+                flag,
                 manner,
                 out,
                 table,
@@ -525,6 +583,7 @@ fn splice_carried<'a>(
             assembled,
             file,
             inputs,
+            flag,
             manner,
             out,
             table,
