@@ -1,5 +1,5 @@
 -- An object of less than 2 ^ 32 bytes has offsets and sizes that fit the words of its headers. Assumes nothing.
-use Prim.Native.Nat.{ℕ, zero, suc, _+_, _^_, _≤_, _<_}
+use Prim.Native.Nat.{ℕ, zero, suc, _+_, _≤_, _<_}
 use mathlib.Core.Path.{_≡_}
 use mathlib.Core.Bool.{true}
 use native.Mathlib.Numerals.{add-one}

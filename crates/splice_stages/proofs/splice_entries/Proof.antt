@@ -1,15 +1,12 @@
 -- Carrying is made ready, which keeps all that the symbols left; then 20; where it does not refuse, the result. Assumes nothing.
 use denote.Ref.{now}
-use mathlib.Core.Path.{refl, sym, ap, _∙_}
+use mathlib.Core.Path.{refl, ap, _∙_}
 use mathlib.Core.List.{List}
 use Prim.Native.Nat.{ℕ}
 use lib.ListN.{length}
-use Rattle.base_answers.specs.Answers.{Answer, roomFor}
+use Rattle.base_answers.specs.Answers.{roomFor}
 use Rattle.base_answers.proofs.Answered.{answered-as, answered-refused}
-use Rattle.blocks_places.specs.Lines.{lineCount}
 use Rattle.blocks_places.specs.Places.{Place}
-use Rattle.blocks_places.specs.Table.{placesIn}
-use Rattle.merge_buffers.specs.Buffers.{placesPart}
 use Rattle.carry_stage.proofs.Stage.{ready-read, ready-movable, ready-symbols, ready-held, ready-carry, sides-read}
 use Rattle.splice_stages.specs.Verdict.{entriesAnswer}
 use Rattle.splice_stages.proofs.Result.{places-carried, result-ready, result-is}
@@ -96,8 +93,8 @@ returns c =
     let p = places-carried C A B s (v-args .flag) _ _ _ _ _ (v-carry-ready .ensures) in
     let v = v-carry-fault .ensures .is _ B w k in
     answered-as _ _ _ _ _ (ap (λ (x : List ℕ). roomFor x room) (result-is C A B s w n (now (v-args .table)) _ (now (v-args .steps)) _ r m y h _ (v-filling-of .ensures))
-        ∙ answer-result (s .inputs .order) C A _ B (w .mode) (w .head) room _ v (v-enum-told .given .1)
-        ∙ ap (λ (x : List Place). entriesAnswer (s .inputs .order) C A x B (w .mode) (w .head) room) p) (v-splice-room .ensures)
+    ∙ answer-result (s .inputs .order) C A _ B (w .mode) (w .head) room _ v (v-enum-told .given .1)
+    ∙ ap (λ (x : List Place). entriesAnswer (s .inputs .order) C A x B (w .mode) (w .head) room) p) (v-splice-room .ensures)
 
 same-length-4 : tie.Need-same-length-4
 same-length-4 c = search needs
@@ -123,7 +120,7 @@ returns-2 c =
     let p = places-carried C A B s (v-args .flag) _ _ _ _ _ (v-carry-ready .ensures) in
     let v = v-carry-fault .ensures .is _ B w k in
     answered-as _ _ _ _ _ (answer-20 (s .inputs .order) C A _ B (w .mode) (w .head) room _ v _ _ _ (v-number .given .1)
-        ∙ ap (λ (x : List Place). entriesAnswer (s .inputs .order) C A x B (w .mode) (w .head) room) p) (answered-refused _ _ _ _ _ _ (v-refusal .ensures) refl)
+    ∙ ap (λ (x : List Place). entriesAnswer (s .inputs .order) C A x B (w .mode) (w .head) room) p) (answered-refused _ _ _ _ _ _ (v-refusal .ensures) refl)
 
 pub splice-entries-spec : {M : Type 1} → statement M
 splice-entries-spec =

@@ -32,11 +32,12 @@ splice-entries-requires c κs =
     let B = now (v-args .file) in
     let s = v-args .stage in
     let w = v-args .manner in
-    let e = v-merge-symbols .ensures in
-    (read-after C A B s w _ (now (v-args .table)) _ (now (v-args .places)) _ (now (v-args .steps)) _ _ e (v-pre .0),
-    moves-after C A B s w _ (now (v-args .table)) _ (now (v-args .places)) _ (now (v-args .steps)) _ _ e (v-pre .1),
-    symbols-after C A B s w _ (now (v-args .table)) _ (now (v-args .places)) _ (now (v-args .steps)) _ _ e _ (v-counts .given .1),
-    held-after C A B s w _ (now (v-args .table)) _ (now (v-args .places)) _ (now (v-args .steps)) _ _ e (now (v-args .index)) (v-pre .3) (v-merge-symbols .kept .1 .1 .1 .1 .1 .1 .1 .1 .0))
+    let e = v-merge-symbols .ensures in (
+      read-after C A B s w _ (now (v-args .table)) _ (now (v-args .places)) _ (now (v-args .steps)) _ _ e (v-pre .0),
+      moves-after C A B s w _ (now (v-args .table)) _ (now (v-args .places)) _ (now (v-args .steps)) _ _ e (v-pre .1),
+      symbols-after C A B s w _ (now (v-args .table)) _ (now (v-args .places)) _ (now (v-args .steps)) _ _ e _ (v-counts .given .1),
+      held-after C A B s w _ (now (v-args .table)) _ (now (v-args .places)) _ (now (v-args .steps)) _ _ e (now (v-args .index)) (v-pre .3) (v-merge-symbols .kept .1 .1 .1 .1 .1 .1 .1 .1 .0),
+    )
 
 enum-known-number : tie.Need-enum-known-number
 enum-known-number c = search needs
@@ -73,7 +74,7 @@ returns c =
     let room = length (now (v-args .out)) in
     let e = v-merge-symbols .ensures in
     answered-as _ _ _ _ _ (ap (λ (x : List Place). entriesAnswer (s .inputs .order) C A x B (w .mode) (w .head) room) (places-after C A B s w _ (now (v-args .table)) _ (now (v-args .places)) _ (now (v-args .steps)) _ _ e)
-        ∙ answer-numbered (s .inputs .order) C A (placesIn (placesPart (now (v-args .places))) (lineCount B)) B (w .mode) (w .head) room _ (e .verdict) _ (v-counts .given .1)) (v-splice-entries .ensures)
+    ∙ answer-numbered (s .inputs .order) C A (placesIn (placesPart (now (v-args .places))) (lineCount B)) B (w .mode) (w .head) room _ (e .verdict) _ (v-counts .given .1)) (v-splice-entries .ensures)
 
 same-length-6 : tie.Need-same-length-6
 same-length-6 c = search needs

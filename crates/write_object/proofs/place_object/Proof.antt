@@ -3,7 +3,6 @@ use Rattle.write_object.proofs.Own.{own-small, own-headings-small, at-i
 use Rattle.elf_readers.specs.Readers.{sectionCount}
 use Rattle.base_answers.proofs.Answered.{room-there, room-short}
 use native.Mathlib.Omega.{arith}
-use lib.ListN.{length}
 use denote.Ref.{now}
 use borrow.Author.Needs.{needs}
 use Rattle.write_object.proofs.place_object.Statement.{statement}
