@@ -5,3 +5,4 @@ pub mod Entries
 pub mod Relocations
 pub mod Lengths
 pub mod Fits
+pub mod Names
