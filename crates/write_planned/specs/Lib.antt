@@ -1,0 +1,4 @@
+pub mod Held
+pub mod Tables
+pub mod OwnKinds
+pub mod Headings
