@@ -1,0 +1,80 @@
+-- The answer of a merge that has come to writing: refusal 17 of a debug section that cannot move, then the merged object (crate write_plan, specs/Plan.antt), or refusal 21.
+use Prim.Native.Nat.{ℕ, _+_, _<_}
+use mathlib.Core.Path.{_≡_}
+use mathlib.Core.Bool.{Bool, true, cond}
+use mathlib.Core.List.{List}
+use lib.ListN.{length}
+use Rattle.base_lists.specs.Windows.{spliced}
+use Rattle.base_fields.specs.declared.ByteOrder.{ByteOrder}
+use Rattle.base_scope.specs.Elf.{SHT_RELA, SHT_REL}
+use Rattle.base_scope.specs.Refusals.{STATICS}
+use Rattle.base_answers.specs.Answers.{Answer, COMPILED, roomFor}
+use Rattle.base_answers.specs.Verdicts.{ifPassed, findingVerdict}
+use Rattle.elf_records.specs.declared.section.SectionHeader.{SectionHeader}
+use Rattle.elf_readers.specs.Readers.{header, isStrtab}
+use Rattle.blocks_places.specs.Places.{Place}
+use Rattle.write_image.specs.Layout.{endBefore}
+use Rattle.write_object.specs.Object.{Plan, layoutOf, movedFinding}
+use Rattle.write_plan.specs.Plan.{mergedPlan, mergedObject}
+use Rattle.write_planned.specs.declared.Writing.{Writing}
+use Rattle.write_planned.specs.Held.{heldPlaces, PlanHeld, SpansOver, heldPlan}
+use Rattle.write_merged.specs.declared.Measured.{Measured}
+
+-- the answer, where the output has so much room
+unfoldable pub mergedAnswer : ByteOrder → List ℕ → List ℕ → List Place → List ℕ → List ℕ → ℕ → ℕ → ℕ → Answer
+mergedAnswer o C A P B path flag mode room =
+    ifPassed (findingVerdict STATICS COMPILED (movedFinding (mergedPlan o C A P B path flag mode) o)) (roomFor (mergedObject o C A P B path flag mode) room)
+
+-- ---- of the code: what is in hand
+
+-- the header of a new section, of a type and a size of its entries
+unfoldable pub openedAs : ℕ → ℕ → ℕ → ℕ → ℕ → SectionHeader
+openedAs name kind link info entry = record {
+  «sh_name» = name;
+  «sh_type» = kind;
+  «sh_flags» = 0;
+  «sh_addr» = 0;
+  «sh_offset» = 0;
+  «sh_size» = 0;
+  «sh_link» = link;
+  «sh_info» = info;
+  «sh_addralign» = 4;
+  «sh_entsize» = entry;
+}
+
+-- with addends or without
+unfoldable pub openedWith : ℕ → Bool → ℕ → ℕ → SectionHeader
+openedWith name rela link info = openedAs name (cond rela SHT_RELA SHT_REL) link info (cond rela 12 8)
+
+-- where the sections before section i of a plan end
+unfoldable pub planEnd : Plan → ℕ → ℕ
+planEnd p i = endBefore (layoutOf p) i
+
+-- all that sections are written by, and that the section names are a string table
+pub record MergedReady (C A B path : List ℕ) (x : Writing) (table places steps index : List ℕ) : Type 0 where
+  pub held : PlanHeld C A B path x table places steps index
+  pub names : isStrtab (x .stage .inputs .order) C (header (x .stage .inputs .order) C .«e_shstrndx») ≡ true
+
+-- section i in hand, and the end of those before it
+pub record MergedSection (C A B path : List ℕ) (x : Writing) (table places steps index : List ℕ) (i end : ℕ) : Type 0 where
+  pub ready : MergedReady C A B path x table places steps index
+  pub below : i < heldPlan C A B path x places .many
+  pub from : end ≡ planEnd (heldPlan C A B path x places) i
+
+-- the header of section i of a plan, and how many bytes it holds
+pub record MeasuredAs (p : Plan) (i : ℕ) (r : Measured) : Type 0 where
+  pub heading : r .heading ≡ p .heading i
+  pub size : r .size ≡ length (p .content i)
+
+-- a step of a pass over the sections wrote b at `at`, and the next section comes behind r
+pub record MergedStep (p : Plan) (i : ℕ) (b : List ℕ) (at r : ℕ) (before after index indexAfter : List ℕ) : Type 0 where
+  pub next : r ≡ planEnd p (i + 1)
+  pub bytes : after ≡ spliced before at b
+  pub spans : SpansOver index indexAfter
+
+-- the answer of the plan in hand
+abbrev pub heldAnswer : List ℕ → List ℕ → List ℕ → List ℕ → Writing → List ℕ → ℕ → Answer
+heldAnswer C A B path x places room = mergedAnswer (x .stage .inputs .order) C A (heldPlaces B places) B path (x .flag) (x .manner .mode) room
+
+abbrev pub heldObject : List ℕ → List ℕ → List ℕ → List ℕ → Writing → List ℕ → List ℕ
+heldObject C A B path x places = mergedObject (x .stage .inputs .order) C A (heldPlaces B places) B path (x .flag) (x .manner .mode)
