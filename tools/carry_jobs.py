@@ -118,6 +118,12 @@ def trailing(s, kind, symbol=False, related=False):
     s.in_c(b'.extra', SH_TYPE, kind)
 
 
+def stale(s):
+    """a table of C with entries for another section than the four"""
+    s.c.update({b'.pdr': bytes(8)})
+    s.c_tables.update({b'.rel.pdr': [Entry(0, 5)]})
+
+
 # Each changes one thing; what comes of it is the model's to say.
 VARIATIONS = [
     lambda s: None,
@@ -127,7 +133,7 @@ VARIATIONS = [
     lambda s: s.a_tables.update({some_table(s.a_tables, s.chance): []}),
     lambda s: s.c_tables.update({some_table(s.c_tables, s.chance): []}),
     # 10, the first cause
-    lambda s: (s.c.update({b'.pdr': bytes(8)}), s.c_tables.update({b'.rel.pdr': [Entry(0, 5)]})),
+    stale,
     lambda s: (s.c.update({b'.pdr': bytes(8)}), s.c_tables.update({b'.rel.pdr': []})),
     lambda s: s.in_c(b'.rel.data', SH_INFO, 0),
     lambda s: (s.c.update({b'.late_rodata': bytes(8)}), s.c_tables.update({b'.rel.late_rodata': [Entry(0, 5)]})),
@@ -157,6 +163,10 @@ VARIATIONS = [
     lambda s: setattr(s, 'a_tables', dict(reversed(s.a_tables.items()))),
     lambda s: setattr(s, 'c_tables', dict(reversed(s.c_tables.items()))),
     lambda s: s.blocks.clear(),
+    # 10 before 12, 19 and 20
+    lambda s: (stale(s), s.a_symbols.__setitem__(0, s.a_symbols[0]._replace(value=9))),
+    lambda s: (stale(s), s.c_symbols.append(Sym(b'shared', b'.text', 4))),
+    lambda s: (stale(s), entry_changed(s.c_tables, s.chance, symbol=99)),
 ]
 
 
@@ -165,9 +175,10 @@ def made_jobs(seed, count):
     chance = random.Random(seed)
     for n in range(count):
         rela = [chance.randrange(4) == 0 for _ in range(2)]
-        plain = 6 <= n % len(VARIATIONS) < 21 or n % len(VARIATIONS) == 27 or n % len(VARIATIONS) == 1
+        which = n % len(VARIATIONS)
+        plain = which in (1, 27) or 6 <= which < 21
         carry = Carry(chance, late=chance.randrange(4) != 0, rela=(False, False) if plain else rela)
-        VARIATIONS[n % len(VARIATIONS)](carry)
+        VARIATIONS[which](carry)
         yield carry.job()
 
 
