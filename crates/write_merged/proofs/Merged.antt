@@ -6,7 +6,7 @@ use mathlib.Core.Bool.{Bool, true, false, cond}
 use mathlib.Core.List.{List}
 use native.Mathlib.Omega.{arith}
 use lib.ListN.{length, length-append}
-use lib.Dec.{eqb, ltb}
+use lib.Dec.{eqb}
 use borrow.Author.Tests.{eqb-true, eqb-false}
 use Rattle.base_lists.specs.Windows.{spliced}
 use Rattle.base_lists.specs.Written.{Written}
@@ -15,8 +15,8 @@ use Rattle.base_lists.proofs.Written.{written-as}
 use Rattle.base_buffers.specs.Buffers.{zeros}
 use Rattle.base_fields.specs.declared.ByteOrder.{ByteOrder}
 use Rattle.base_scope.specs.Elf.{SHT_RELA, SHT_REL, SHT_MIPS_DEBUG, SHT_NULL, SHT_NOBITS}
-use Rattle.base_scope.specs.Codes.{BSS, REGINFO, LINES, targetCode}
-use Rattle.base_scope.specs.Limits.{FILE_LIMIT, SECTION_LIMIT, ALIGN_LIMIT, STATIC_LIMIT}
+use Rattle.base_scope.specs.Codes.{LINES, targetCode}
+use Rattle.base_scope.specs.Limits.{SECTION_LIMIT, ALIGN_LIMIT}
 use Rattle.base_scope.specs.Refusals.{STATICS}
 use Rattle.base_scope.specs.declared.Finding.the-variants.{Clear, At}
 use Rattle.base_answers.specs.Answers.{refused, COMPILED, roomFor}
@@ -27,39 +27,31 @@ use Rattle.elf_records.specs.Relocation.{relocationLayout}
 use Rattle.elf_records.specs.Header.{elfBytes}
 use Rattle.elf_readers.specs.Readers.{header, sectionCount, section, contents, codedSection}
 use Rattle.elf_readers.specs.Bounds.{Headed}
-use Rattle.elf_readers.proofs.Readers.{contents-short, coded-short}
 use Rattle.elf_check.specs.declared.View.{View}
 use Rattle.elf_check.specs.View.{viewOf, sectionIn}
 use Rattle.elf_check.proofs.Views.{view-section}
 use Rattle.elf_relocations.specs.Relocations.{isRela, entrySize}
-use Rattle.elf_sections.proofs.Bounds.{sound-aligned}
-use Rattle.elf_symbols.specs.Symbols.{symtab, strtab}
-use Rattle.statics_table.specs.declared.Static.{Static}
+use Rattle.elf_symbols.specs.Symbols.{symtab}
 use Rattle.statics_table.specs.Statics.{nameHead}
-use Rattle.statics_walk.specs.Walk.{statics}
-use Rattle.statics_walk.proofs.Sound.{statics-sound}
 use Rattle.merge_buffers.specs.Buffers.{SPANS_AT}
 use Rattle.merge_buffers.proofs.Parts.{kept-same, kept-then}
-use Rattle.merge_sections.proofs.Sections.{section-length, registers-length}
 use Rattle.merge_kept.specs.Kept.{kept}
 use Rattle.merge_kept.proofs.Kept.{kept-le, other-stays, stays-kept}
-use Rattle.symbols_taken.specs.Used.{isSectionOf, codeOf}
 use Rattle.carry_homes.specs.Homes.{carriedCount, carriedTable, newCount, openedBy}
 use Rattle.carry_homes.specs.declared.TableName.{TableName}
 use Rattle.carry_homes.specs.Code.{HOME_ROW, TablesListed, openedIn, homeKey}
 use Rattle.carry_clash.specs.Clash.{carriedCode}
 use Rattle.carry_stage.specs.Tables.{homesPart}
-use Rattle.carry_homes.proofs.Joins.{new-few, opened-lt, opened-is}
+use Rattle.carry_homes.proofs.Joins.{opened-lt, opened-is}
 use Rattle.write_image.specs.Layout.{HEADER_END, HEADING_SIZE, alignedTo, headingsAt, imageLength}
 use Rattle.write_object.specs.Object.{Plan, layoutOf, hasPlace, movedFinding, objectBytes}
 use Rattle.write_object.specs.Steps.{frontWith, piecesOf, headingsOf}
 use Rattle.write_object.proofs.Own.{own-ident}
-use Rattle.write_plan.specs.Plan.{ownBytes, addedNames, keptHeading, newHeading, mergedObject}
+use Rattle.write_plan.specs.Plan.{newHeading, mergedObject}
 use Rattle.write_plan.proofs.Sections.{strtab-type, table-typed, table-not, other-holds, debug-bytes}
-use Rattle.write_plan.proofs.Headers.{many-is, heading-kept, heading-new, content-is, type-kept, placed-typed}
+use Rattle.write_plan.proofs.Headers.{many-is, heading-new, content-is, type-kept, placed-typed}
 use Rattle.write_plan.proofs.Relocations.{carried-table}
-use Rattle.write_plan.proofs.Lengths.{STRING-LIMIT, strings-limit, new-names-limit, symbols-limit}
-use Rattle.write_plan.proofs.Fits.{NewWords, carried-less, plan-many, plan-fits, new-fits}
+use Rattle.write_plan.proofs.Fits.{WIDEST, NewWords, plan-many, plan-fits, new-fits, align-limit, own-limit as plan-own, added-limit as plan-added}
 use Rattle.write_planned.specs.declared.Writing.{Writing}
 use Rattle.write_planned.specs.Held.{heldPlaces, SpansOver, heldPlan, heldBytes, heldOwn, heldNames, heldNameAt}
 use Rattle.write_planned.proofs.Held.{held-still}
@@ -256,25 +248,15 @@ module _ (C A B path : List ℕ) (x : Writing) (table places steps index : List 
 
   -- ---- numbers that the code adds and casts
 
-  align-kept : (i : ℕ) → i < stay → p .heading i .«sh_addralign» ≤ ALIGN_LIMIT
-  unfolding keptHeading
-  align-kept i l =
-      let k : i < sectionCount o C = omega (arith, l, kept-le o C (x .flag)) in
-      rw (heading-kept o C A (heldPlaces B places) B path (x .flag) (x .manner .mode) i l) (sound-aligned o C i (r .held .read .read .compiledSound .sections i k))
-
-  align-new : (i : ℕ) → stay ≤ i → p .heading i .«sh_addralign» ≤ ALIGN_LIMIT
-  unfolding newHeading
-  align-new i l =
-      let q : i ≡ stay + (i - stay) = omega (arith, l) in
-      let f : p .heading i ≡ newHeading o C A (heldPlaces B places) B path (x .flag) (x .manner .mode) (i - stay)
-      = ap (λ (y : ℕ). p .heading y) q ∙ heading-new o C A (heldPlaces B places) B path (x .flag) (x .manner .mode) (i - stay) in
-      rw f (omega arith)
+  align-fits : (i : ℕ) → p .heading i .«sh_addralign» ≤ ALIGN_LIMIT
+  align-fits i =
+      let k = r .held .read .read in
+      align-limit o C A (heldPlaces B places) B path (x .flag) (x .manner .mode) (k .compiledSound) (k .assembledSound) (k .compiledSmall) (k .assembledSmall) (r .held .short) i
 
   module _ (i end : ℕ) (below : i < p .many) (from : end ≡ planEnd p i) (h : SectionHeader) (is : h ≡ p .heading i) where
     pub sum-fits : end + h .«sh_addralign» < 18446744073709551616
     sum-fits =
-        let e : h .«sh_addralign» ≤ ALIGN_LIMIT
-        = rw is (by-lt i stay (λ l. align-kept i l) (λ l. align-new i l)) in
+        let e : h .«sh_addralign» ≤ ALIGN_LIMIT = rw is (align-fits i) in
         omega (arith, e, from, end-inside p o i (omega (arith, below)), held-fits)
 
     pub start-fits : hasPlace h ≡ true → alignedTo end (h .«sh_addralign») + length (p .content i) < 4294967296
@@ -282,40 +264,15 @@ module _ (C A B path : List ℕ) (x : Writing) (table places steps index : List 
         omega (arith, next-sized p o i end from h is (length (p .content i)) refl t, end-inside p o (i + 1) (omega (arith, below)), held-fits)
 
   -- a section without a place is C's, and holds no more than the string table can
-  own-limit : (i : ℕ) → length (heldOwn C A B path x places i) ≤ FILE_LIMIT + FILE_LIMIT + STRING-LIMIT * STATIC_LIMIT
-  unfolding ownBytes
+  own-limit : (i : ℕ) → length (heldOwn C A B path x places i) ≤ WIDEST
   own-limit i =
       let k = r .held .read .read in
-      let short = k .compiledSmall in
-      let brief = k .assembledSmall in
-      let P = heldPlaces B places in
-      let m = x .manner .mode in
-      let S : List Static = statics o C m head in
-      let c = contents-short o C i in
-      by-test (eqb (section o C i .«sh_type») SHT_MIPS_DEBUG)
-      (λ t. rw t (omega (arith, short, c)))
-      (λ a. by-test (eqb i (symtab o C))
-      (λ t. rw (a, t) (omega (arith, symbols-limit o C A P B m head S (k .compiledSound) (k .assembledSound) (statics-sound o C m head))))
-      (λ b. by-test (eqb i (strtab o C))
-      (λ t. rw (a, b, t) (omega (arith, short, brief, strings-limit m path C (r .held .short) o A S head (statics-sound o C m head))))
-      (λ d. by-test (isSectionOf o C i REGINFO)
-      (λ t. rw (a, b, d, t) (omega (arith, short, registers-length o C A, coded-short o C REGINFO)))
-      (λ e. by-test (ltb (codeOf o C i) BSS)
-      (λ t. rw (a, b, d, e, t) (omega (arith, short, section-length o C A P B (codeOf o C i), coded-short o C (codeOf o C i))))
-      (λ f. rw (a, b, d, e, f) (omega (arith, short, c)))))))
+      plan-own o C A (heldPlaces B places) B path (x .flag) (x .manner .mode) (k .compiledSound) (k .assembledSound) (k .compiledSmall) (k .assembledSmall) (r .held .short) i
 
   added-limit : (i : ℕ) → length (heldNames C A B path x places i) ≤ 13 * SECTION_LIMIT
-  unfolding addedNames
-  added-limit i = by-test (eqb i (header o C .«e_shstrndx»))
-      (λ t.
-      rw t
-      (omega (
-        arith,
-        new-names-limit o C A stay (newCount o C A stay) (omega arith),
-        new-few o C A stay,
-        carried-less o A (r .held .read .read .assembledSound),
-      )))
-      (λ f. rw f (omega arith))
+  added-limit i =
+      let k = r .held .read .read in
+      plan-added o C A (heldPlaces B places) B path (x .flag) (x .manner .mode) (k .compiledSound) (k .assembledSound) (k .compiledSmall) (k .assembledSmall) (r .held .short) i
 
   typed-limit : (i : ℕ) → i < p .many → (t : ℕ) → p .heading i .«sh_type» ≡ t → t ≢ SHT_RELA → t ≢ SHT_REL → length (p .content i) < 4294967296
   typed-limit i below t e a b =

@@ -129,7 +129,7 @@ type-fits t (inl e) = omega (arith, e)
 type-fits t (inr e) = omega (arith, e)
 
 -- what the strings can be: no section of C holds more in the result
-abbrev WIDEST : ℕ
+abbrev pub WIDEST : ℕ
 WIDEST = FILE_LIMIT + FILE_LIMIT + STRING-LIMIT * STATIC_LIMIT
 
 module _ (o : ByteOrder) (C A : List ℕ) (P : List Place) (B path : List ℕ) (flag mode : ℕ) where
@@ -165,7 +165,7 @@ module _ (o : ByteOrder) (C A : List ℕ) (P : List Place) (B path : List ℕ) (
 
       -- ---- what a section holds
 
-      own-limit : (i : ℕ) → length (own i) ≤ WIDEST
+      pub own-limit : (i : ℕ) → length (own i) ≤ WIDEST
       unfolding ownBytes
       own-limit i =
           let c = contents-short o C i in
@@ -181,7 +181,7 @@ module _ (o : ByteOrder) (C A : List ℕ) (P : List Place) (B path : List ℕ) (
           (λ t. rw (a, b, d, e, t) (omega (arith, short, section-length o C A P B (codeOf o C i), coded-short o C (codeOf o C i))))
           (λ f. rw (a, b, d, e, f) (omega (arith, short, c)))))))
 
-      added-limit : (i : ℕ) → length (addedNames o C A P B path flag mode i) ≤ 13 * SECTION_LIMIT
+      pub added-limit : (i : ℕ) → length (addedNames o C A P B path flag mode i) ≤ 13 * SECTION_LIMIT
       unfolding addedNames
       added-limit i = by-test (eqb i (header o C .«e_shstrndx»))
           (λ t. rw t (omega (arith, new-names-limit o C A stay (newCount o C A stay) (omega arith), new-few o C A stay, carried-less o A assembled)))
@@ -239,6 +239,9 @@ module _ (o : ByteOrder) (C A : List ℕ) (P : List Place) (B path : List ℕ) (
           = ap (λ (x : ℕ). p .heading x) q ∙ heading-new o C A P B path flag mode (i - stay) in
           rw f (omega arith)
 
+      pub align-limit : (i : ℕ) → p .heading i .«sh_addralign» ≤ ALIGN_LIMIT
+      align-limit i = by-lt i stay (λ l. align-kept i l) (λ l. align-new i l)
+
       -- ---- together
 
       sizes-limit : (m : ℕ) → sum (λ i. ALIGN_LIMIT + length (bytes i)) m ≤ (ALIGN_LIMIT + HELD) * m + FILE_LIMIT * carriedCount o A
@@ -251,7 +254,7 @@ module _ (o : ByteOrder) (C A : List ℕ) (P : List Place) (B path : List ℕ) (
 
       image-is : imageLength (layoutOf p) ≤ HEADER_END + sum (λ i. ALIGN_LIMIT + length (bytes i)) (p .many) + 4 + HEADING_SIZE * p .many
       unfolding layoutOf mergedPlan
-      image-is = image-limit (layoutOf p) (λ i h. by-lt i stay (λ l. align-kept i l) (λ l. align-new i l))
+      image-is = image-limit (layoutOf p) (λ i h. align-limit i)
 
       pub plan-fits : imageLength (layoutOf p) < 2 ^ 32
       plan-fits = omega (arith, image-is, sizes-limit (p .many), plan-many, carried-less o A assembled)
