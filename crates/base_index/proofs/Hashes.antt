@@ -3,10 +3,10 @@ use Prim.Native.Nat.{ℕ, zero, suc, min, _+_, _-_, _≤_, _<_}
 use mathlib.Core.Path.{_≡_, refl, ap}
 use mathlib.Core.List.{List, [], _∷_, _++_}
 use native.Mathlib.Omega.{arith}
-use lib.ListN.{length, getD, take, drop, length-take, drop-of-length-le}
+use lib.ListN.{length, getD, take, drop, length-take, length-append, drop-of-length-le}
 use lib.Seq.{getD-take}
 use Rattle.base_lists.proofs.Windows.{drop-next}
-use Rattle.base_index.specs.Index.{HASH_BYTES, mixedByte, mixed, hashOf}
+use Rattle.base_index.specs.Index.{HASH_BYTES, mixedByte, mixed, hashStart, hashOf}
 
 mixed-none : (h : ℕ) → mixed h [] ≡ h
 unfolding mixed
@@ -26,9 +26,10 @@ take-append (suc n) [] b = let e : suc n - 0 ≡ suc n = omega arith in rw e
 take-append (suc n) (x ∷ a) b = let e : suc n - suc (length a) ≡ n - length a = omega arith in rw (e, take-append n a b)
 
 -- a string in two parts: only the room that the first part leaves is taken of the second
-pub hash-parts : (a b : List ℕ) → hashOf (a ++ b) ≡ mixed (mixed 0 (take HASH_BYTES a)) (take (HASH_BYTES - length a) b)
+pub hash-parts : (a b : List ℕ) → hashOf (a ++ b) ≡ mixed (mixed (hashStart (length a + length b)) (take HASH_BYTES a)) (take (HASH_BYTES - length a) b)
 unfolding hashOf
-hash-parts a b = rw (take-append HASH_BYTES a b, mixed-append 0 (take HASH_BYTES a) (take (HASH_BYTES - length a) b))
+hash-parts a b =
+    rw (length-append a b, take-append HASH_BYTES a b, mixed-append (hashStart (length a + length b)) (take HASH_BYTES a) (take (HASH_BYTES - length a) b))
 
 pub same-hash : (a b : List ℕ) → a ≡ b → hashOf a ≡ hashOf b
 same-hash a b e = ap hashOf e

@@ -30,8 +30,12 @@ unfoldable pub mixed : ℕ → List ℕ → ℕ
 mixed h [] = h
 mixed h (x ∷ s) = mixed (mixedByte h x) s
 
+-- the hash of a string of n bytes before any of them: strings that share their first bytes may differ in length alone
+abbrev pub hashStart : ℕ → ℕ
+hashStart n = n % 2 ^ 32
+
 unfoldable pub hashOf : List ℕ → ℕ
-hashOf s = mixed 0 (take HASH_BYTES s)
+hashOf s = mixed (hashStart (length s)) (take HASH_BYTES s)
 
 abbrev pub bucketOf : ℕ → ℕ
 bucketOf h = h % BUCKETS

@@ -6,7 +6,7 @@ ghost use lib.ListN.{length, take};
 ghost use Rattle.base_lists.specs.Windows.{spliced};
 ghost use Rattle.base_fields.specs.declared.ByteOrder.the-variants.{Big};
 ghost use Rattle.base_fields.specs.Numbers.{encoded};
-ghost use Rattle.base_index.specs.Index.{BUCKETS, ITEM_LIMIT, mixedByte, mixed, hashOf, bucketOf, hashPlace, nextPlace, headPlace, Room, hashIn, nextIn, headIn, Built, Emptied, linked};
+ghost use Rattle.base_index.specs.Index.{BUCKETS, ITEM_LIMIT, mixedByte, mixed, hashStart, hashOf, bucketOf, hashPlace, nextPlace, headPlace, Room, hashIn, nextIn, headIn, Built, Emptied, linked};
 use base_fields::ByteOrder;
 
 pub const BUCKETS: usize = 4096;
@@ -45,11 +45,18 @@ pub fn hash_on(h: u32, s: &[u8], room: usize) -> u32
     g
 }
 
+// The hash of a string of n bytes before any of them.
+pub fn hash_start(n: usize) -> u32
+    ensures { λ r. ⌜ r ≡ hashStart n ⌝ }
+{
+    (n % 4294967296) as u32
+}
+
 // The hash of a string.
 pub fn hash_of(s: &[u8]) -> u32
     ensures { λ r. ⌜ r ≡ hashOf (now (s .entry)) ⌝ }
 {
-    hash_on(0, s, HASH_BYTES)
+    hash_on(hash_start(s.len()), s, HASH_BYTES)
 }
 
 // The bucket of a hash.

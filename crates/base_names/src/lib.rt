@@ -2,7 +2,9 @@
 // definition in the crate base_lists, specs/Strings.antt: comparisons are equations of lists, so a zero byte in a compared string is a byte
 // like any other.
 ghost use mathlib.Core.Path.{_≡_};
-ghost use lib.ListN.{length};
+ghost use mathlib.Core.Bool.{false};
+ghost use Prim.Native.Nat.{_+_, _≤_};
+ghost use lib.ListN.{length, drop};
 ghost use Rattle.base_lists.specs.Ranges.{pastLast};
 ghost use Rattle.base_lists.specs.Strings.{same, prefixed, zeroAt, nameEnd, nameAt, ascii};
 ghost use Rattle.base_names.specs.Ends.{endsApart};
@@ -14,11 +16,47 @@ pub enum Owner {
     Assembled,
 }
 
+// Whether one of the 16 bytes at `at` is zero: where none is, the name at `at` ends where the name behind them does. All 16 are looked at, so that the compiler
+// compares them at once.
+fn has_zero(t: &[u8], at: usize) -> bool
+    requires { ⌜ at + 16 ≤ length (now t) ⌝ }
+    ensures { λ r. ⌜ (r ≡ false → nameEnd (now (t .entry)) at ≡ nameEnd (now (t .entry)) (at + 16)) ⌝ }
+{
+    let mut hit = false;
+    let mut i: usize = 0;
+    while i < 16 {
+        if t[at + i] == 0 {
+            hit = true;
+            i += 1;
+        } else {
+            i += 1;
+        }
+    }
+    hit
+}
+
+// The name at `at` passed over 16 bytes at a time, as long as no zero is among them: less than 16 bytes of it are left.
+fn near_end(t: &[u8], at: usize) -> usize
+    ensures { λ r. ⌜ nameEnd (now (t .entry)) at ≡ nameEnd (now (t .entry)) r ⌝ }
+{
+    let mut i = at;
+    while i < t.len() {
+        if t.len() - i < 16 {
+            return i;
+        }
+        if has_zero(t, i) {
+            return i;
+        }
+        i += 16;
+    }
+    i
+}
+
 // Where the name at `at` ends: its zero byte, or the end of the table.
 pub fn end_of(t: &[u8], at: usize) -> usize
     ensures { λ r. ⌜ r ≡ nameEnd (now (t .entry)) at ⌝ }
 {
-    let mut i = at;
+    let mut i = near_end(t, at);
     while i < t.len() {
         if t[i] == 0 {
             return i;
@@ -64,6 +102,43 @@ pub fn past_last_zero(t: &[u8]) -> usize
     0
 }
 
+// Whether two byte strings differ in one of the 16 bytes at `at`: where they do not, they are equal from `at` on where they are behind these. All 16 are looked
+// at, so that the compiler compares them at once.
+fn has_difference(a: &[u8], b: &[u8], at: usize) -> bool
+    requires { ⌜ (at + 16 ≤ length (now a)) × (at + 16 ≤ length (now b)) ⌝ }
+    ensures { λ r. ⌜ (r ≡ false → same (drop at (now (a .entry))) (drop at (now (b .entry))) ≡ same (drop (at + 16) (now (a .entry))) (drop (at + 16) (now (b .entry)))) ⌝ }
+{
+    let mut hit = false;
+    let mut i: usize = 0;
+    while i < 16 {
+        if a[at + i] != b[at + i] {
+            hit = true;
+            i += 1;
+        } else {
+            i += 1;
+        }
+    }
+    hit
+}
+
+// Two byte strings of one length passed over 16 bytes at a time, as long as these are equal: less than 16 bytes on they differ or end.
+fn near_difference(a: &[u8], b: &[u8]) -> usize
+    requires { ⌜ length (now a) ≡ length (now b) ⌝ }
+    ensures { λ r. ⌜ same (now (a .entry)) (now (b .entry)) ≡ same (drop r (now (a .entry))) (drop r (now (b .entry))) ⌝ }
+{
+    let mut i: usize = 0;
+    while i < a.len() {
+        if a.len() - i < 16 {
+            return i;
+        }
+        if has_difference(a, b, i) {
+            return i;
+        }
+        i += 16;
+    }
+    i
+}
+
 // Whether two byte strings are equal.
 pub fn same_bytes(a: &[u8], b: &[u8]) -> bool
     ensures { λ r. ⌜ r ≡ same (now (a .entry)) (now (b .entry)) ⌝ }
@@ -71,7 +146,7 @@ pub fn same_bytes(a: &[u8], b: &[u8]) -> bool
     if a.len() != b.len() {
         return false;
     }
-    let mut i: usize = 0;
+    let mut i = near_difference(a, b);
     while i < a.len() {
         if a[i] != b[i] {
             return false;

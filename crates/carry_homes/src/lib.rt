@@ -331,28 +331,3 @@ pub fn append_name(out: &mut [u8], at: u64, rela: bool, code: u32) -> u64
     let end = append_kind(out, at, rela);
     append_code(out, end, code)
 }
-
-// How many bytes the name of a code has.
-fn code_length(code: u32) -> usize
-    requires { ⌜ (1 ≤ code) × (code ≤ LINES) ⌝ }
-    ensures { λ r. ⌜ (r ≡ length (codeName code)) × (r ≤ 7) ⌝ }
-{
-    if code == base_scope::RODATA {
-        return 7;
-    }
-    if code == base_scope::BSS {
-        return 4;
-    }
-    5
-}
-
-// How many bytes the name of a table has.
-pub fn name_length(rela: bool, code: u32) -> usize
-    requires { ⌜ (1 ≤ code) × (code ≤ LINES) ⌝ }
-    ensures { λ r. ⌜ r ≡ length (joinedName rela code) ⌝ }
-{
-    if rela {
-        return 5 + code_length(code);
-    }
-    4 + code_length(code)
-}

@@ -17,7 +17,7 @@ use Rattle.elf_readers.specs.Readers.{orderOf, sectionCount, section, codedSect
 use Rattle.elf_header.specs.FileHeader.{headerFault}
 use Rattle.elf_sections.specs.Headers.{wholeEntries, sectionFault}
 use Rattle.elf_sections.specs.Names.{nameFault, typeFault}
-use Rattle.elf_sections.proofs.Bounds.{counted, sections-sound, sound-entries, headed-of, named-of, names-sound, types-sound}
+use Rattle.elf_sections.proofs.Bounds.{counted, sections-sound, sound-entries, headed-of, named-of, names-strings, names-sound, types-sound}
 use Rattle.elf_symbols.specs.Symbols.{symtab, symbolCount}
 use Rattle.elf_symbol_faults.specs.Faults.{symbolFault}
 use Rattle.elf_symbol_faults.proofs.Faults.{fault-sound, fault-tabled, fault-symbols, sound-table, sound-strtab, sound-end, sound-index, sound-zero, sound-unnamed}
@@ -93,6 +93,8 @@ module _ (o : ByteOrder) (F : List ℕ) (p : Passed o F) where
       let tabled = fault-tabled o F headed (p .symbols) in
       let symbols = fault-symbols o F (p .symbols) in
       record {
+        fields = p .header;
+        names = names-strings o F (p .names);
         named = named-of o F headed (p .names);
         tabled = tabled;
         some = counted o F (p .sections) .0;
@@ -104,6 +106,7 @@ module _ (o : ByteOrder) (F : List ℕ) (p : Passed o F) where
         null = sound-zero o F (symbols 0 (tabled .some));
         unnamed = sound-unnamed o F (symbols 0 (tabled .some));
         indices = λ k l. sound-index o F k (symbols k l);
+        symbolEntry = sound-table o F (fault-sound o F (p .symbols)) .entry;
         symbolBytes = symbol-bytes;
         strings = sound-strtab o F (fault-sound o F (p .symbols));
         tables = fault-tables o F (p .relocations);

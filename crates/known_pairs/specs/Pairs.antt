@@ -1,4 +1,4 @@
--- Document 01, "Known pairs": those with a star, as one table over the definitions that the calls use. Pairs of stages that do not stand yet come with them.
+-- Document 01, "Known pairs": those with a star, as one table over the definitions that the calls use.
 use Prim.Native.Nat.{ℕ, _+_}
 use mathlib.Core.Bool.{true}
 use mathlib.Core.Path.{_≡_}

@@ -55,20 +55,25 @@ pub fn index_symbols(order: ByteOrder, assembled: &[u8], symbols: SymbolTable, i
     base_index::build(index, base_scope::SYMBOL_LIMIT, n);
 }
 
-// Whether symbol k has a name.
+// Whether symbol k has a name, of which the hash is in hand: names are read only where the hashes agree.
 fn is_named(
     order: ByteOrder,
     assembled: &[u8],
     at: usize,
     strings: &[u8],
+    index: &[u8],
     name: &[u8],
+    hash: u32,
     k: usize,
 ) -> bool
-    requires { ⌜ Entries order (now assembled) at (now strings) × (k < symbolCount order (now assembled)) ⌝ }
+    requires { ⌜ Entries order (now assembled) at (now strings) × (k < symbolCount order (now assembled)) × SymbolIndex order (now assembled) (now index) × (hash ≡ hashOf (now name)) ⌝ }
     ensures { λ r. ⌜ r ≡ isSymbolNamed order (now (assembled .entry)) (now (name .entry)) k ⌝ }
 {
-    let s = elf_symbols::symbol_at(order, assembled, at, k);
-    base_names::name_is(strings, s.st_name as usize, name)
+    if base_index::hash_at(index, k) == hash {
+        let s = elf_symbols::symbol_at(order, assembled, at, k);
+        return base_names::name_is(strings, s.st_name as usize, name);
+    }
+    false
 }
 
 // A word with bit 0 set, or, where `put` is not 0, with `put` behind bit 0.
@@ -102,15 +107,18 @@ fn mark_symbol(
     assembled: &[u8],
     at: usize,
     strings: &[u8],
+    index: &[u8],
     name: &[u8],
+    hash: u32,
     put: u32,
     k: usize,
     marks: &mut [u8],
 ) -> bool
-    requires { ⌜ Entries order (now assembled) at (now strings) × (k < symbolCount order (now assembled)) × (put ≤ NUMBER_LIMIT + 1) × (4 * SYMBOL_LIMIT ≤ length (now marks)) ⌝ }
+    requires { ⌜ Entries order (now assembled) at (now strings) × (k < symbolCount order (now assembled)) × (put ≤ NUMBER_LIMIT + 1) × (4 * SYMBOL_LIMIT ≤ length (now marks))
+        × SymbolIndex order (now assembled) (now index) × (hash ≡ hashOf (now name)) ⌝ }
     ensures { λ r. ⌜ Visited (isSymbolNamed order (now (assembled .entry)) (now (name .entry))) put k (symbolCount order (now (assembled .entry))) r (now (marks .entry)) (now (marks .exit)) ⌝ }
 {
-    if is_named(order, assembled, at, strings, name, k) {
+    if is_named(order, assembled, at, strings, index, name, hash, k) {
         return renew(put, k, marks);
     }
     true
@@ -133,9 +141,21 @@ fn mark_named(
     let strings = elf_symbols::strings_of(assembled, symbols);
     let at = symbols.at;
     let n = symbols.count;
-    let mut k = base_index::head_of(index, base_scope::SYMBOL_LIMIT, base_index::hash_of(name));
+    let hash = base_index::hash_of(name);
+    let mut k = base_index::head_of(index, base_scope::SYMBOL_LIMIT, hash);
     while k < n {
-        if mark_symbol(order, assembled, at, strings, name, put, k, marks) {
+        if mark_symbol(
+            order,
+            assembled,
+            at,
+            strings,
+            index,
+            name,
+            hash,
+            put,
+            k,
+            marks,
+        ) {
             k = base_index::next_of(index, base_scope::SYMBOL_LIMIT, k);
         } else {
             return;

@@ -3,6 +3,7 @@
 // `holderOf` in the crate symbols_merge, specs/Listed.antt; what is in hand, and what is left: specs/Ready.antt. Document 01, "Symbols": "Equal non-empty working names
 // merge, binding ignored".
 ghost use mathlib.Core.Path.{_≡_};
+ghost use mathlib.Core.List.{_++_};
 ghost use Prim.Native.Nat.{min, _+_, _-_, _*_, _≤_, _<_};
 ghost use lib.ListN.{length, getD, take};
 ghost use Rattle.base_lists.specs.Windows.{spliced};
@@ -65,7 +66,19 @@ fn hash_tail(h: u32, number: u32, room: usize) -> u32
     g
 }
 
-// The hash of the working name of an id: of its stored name, and of its count as far as there is room.
+// The hash of a stored name with the tail of its count: from the length of both, over the stored name, and over the tail as far as there is room.
+fn joined_hash(stored: &[u8], number: u32) -> u32
+    requires { ⌜ number ≤ STATIC_LIMIT ⌝ }
+    ensures { λ r. ⌜ r ≡ hashOf (now (stored .entry) ++ countTail number) ⌝ }
+{
+    let tail = statics_table::tail_length(number) as usize;
+    let start = base_index::hash_start(stored.len() + tail);
+    let front = base_index::hash_on(start, stored, base_index::HASH_BYTES);
+    let room = room_behind(stored.len());
+    hash_tail(front, number, room)
+}
+
+// The hash of the working name of an id.
 pub fn name_hash<'a>(
     order: ByteOrder,
     compiled: &'a [u8],
@@ -79,8 +92,7 @@ pub fn name_hash<'a>(
 {
     let stored = symbols_names::stored_name(order, compiled, assembled, statics, sources, id);
     let count = symbols_names::name_count(statics, sources, id);
-    let room = room_behind(stored.len());
-    hash_tail(base_index::hash_of(stored), count, room)
+    joined_hash(stored, count)
 }
 
 // Puts the hash of the id at position p, as that of item p.

@@ -38,7 +38,7 @@ module _ (o : ByteOrder) (C A : List ℕ) (S : List Static) (i : ℕ) where
       (λ g. rw (f, g)))
 
 -- a name in the strings of its object, where the entry has it
-name-read : (o : ByteOrder) (F t : List ℕ) (at k : ℕ) → t ≡ symbolStrings o F → at ≡ symbol o F k .«st_name» → nameAt t at ≡ symbolName o F k
+pub name-read : (o : ByteOrder) (F t : List ℕ) (at k : ℕ) → t ≡ symbolStrings o F → at ≡ symbol o F k .«st_name» → nameAt t at ≡ symbolName o F k
 unfolding symbolName
 name-read o F t at k e is = rw (e, is)
 
@@ -89,17 +89,25 @@ module _ (o : ByteOrder) (C A T : List ℕ) (s : Sources) (r : SourcesRead o C A
       (λ p. omega arith)
 
   module _ (i : ℕ) where
+    -- the stored name of a symbol is its name
+    pub own-stored : i < s .compiled .count → symbolName o C i ≡ storedOf o C A (staticsIn T (s .statics)) i
+    unfolding storedOf byOrigin
+    own-stored h = rw (first-a, lt-ltb i (s .compiled .count) h)
+
+    pub other-stored : s .compiled .count ≤ i → i < firstIn s → symbolName o A (i - s .compiled .count) ≡ storedOf o C A (staticsIn T (s .statics)) i
+    unfolding storedOf byOrigin
+    other-stored h l = rw (first-a, first-static, le-ltb i (s .compiled .count) h, lt-ltb i (firstIn s) l)
+
     -- w is the name at `at` in its object's strings: t are C's, u are A's
     pub stored-own : (w t u : List ℕ) (at : ℕ) → w ≡ nameAt (tableOf Compiled t u) at → t ≡ symbolStrings o C → at ≡ symbol o C i .«st_name» → i < s .compiled .count
         → w ≡ storedOf o C A (staticsIn T (s .statics)) i
-    unfolding tableOf storedOf byOrigin
-    stored-own w t u at e strings is h = e ∙ rw (first-a, lt-ltb i (s .compiled .count) h) (name-read o C t at i strings is)
+    unfolding tableOf
+    stored-own w t u at e strings is h = e ∙ name-read o C t at i strings is ∙ own-stored h
 
     pub stored-other : (w t u : List ℕ) (at : ℕ) → w ≡ nameAt (tableOf Assembled t u) at → u ≡ symbolStrings o A → at ≡ symbol o A (i - s .compiled .count) .«st_name»
         → s .compiled .count ≤ i → i < firstIn s → w ≡ storedOf o C A (staticsIn T (s .statics)) i
-    unfolding tableOf storedOf byOrigin
-    stored-other w t u at e strings is h l =
-        e ∙ rw (first-a, first-static, le-ltb i (s .compiled .count) h, lt-ltb i (firstIn s) l) (name-read o A u at (i - s .compiled .count) strings is)
+    unfolding tableOf
+    stored-other w t u at e strings is h l = e ∙ name-read o A u at (i - s .compiled .count) strings is ∙ other-stored h l
 
     pub stored-static : (x : Static) (f : ℕ) → f ≡ firstIn s → f ≤ i → i < f + s .statics → x ≡ staticIn T (i - f)
         → nameAt C (x .start) ≡ storedOf o C A (staticsIn T (s .statics)) i

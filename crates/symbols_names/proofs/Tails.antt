@@ -1,7 +1,7 @@
 -- Laws of a stored name and the tail of its count: its bytes, and when two are equal. A digit is the last one of the number without those behind it. Assumes nothing.
 use Prim.Native.Nat.{ℕ, zero, suc, _+_, _-_, _/_, _%_, _≤_, _<_}
 use mathlib.Core.Path.{_≡_, refl, sym, ap, _∙_}
-use mathlib.Core.Bool.{Bool, true, false}
+use mathlib.Core.Bool.{Bool, true, false, _&&_}
 use mathlib.Core.List.{List, [], _∷_, _++_, append-nil}
 use native.Mathlib.Omega.{arith}
 use lib.ListN.{length, take, drop, getD, length-append, List·getD-append}
@@ -160,6 +160,12 @@ no-colon (suc (suc (suc (suc (suc (suc zero)))))) e = absurd (omega arith)
 no-colon (suc (suc (suc (suc (suc (suc (suc zero))))))) e = absurd (omega arith)
 no-colon (suc (suc (suc (suc (suc (suc (suc (suc k)))))))) e = absurd (omega arith)
 
+-- a string without bytes
+empty-same : (a : List ℕ) → same a [] ≡ eqb (length a) 0
+unfolding same
+empty-same [] = refl
+empty-same (x ∷ a) = sym (ne-eqb (length (x ∷ a)) 0 (λ e. omega arith))
+
 -- a name w of those parts
 module _ (w a : List ℕ) (n : ℕ) (is : a ++ countTail n ≡ w) where
   pub gp-counted : (n ≡ 0 → ⊥) → false ≡ same w (text "_gp_disp")
@@ -169,3 +175,11 @@ module _ (w a : List ℕ) (n : ℕ) (is : a ++ countTail n ≡ w) where
 
   pub gp-stored : (r : Bool) → n ≡ 0 → r ≡ same a (text "_gp_disp") → r ≡ same w (text "_gp_disp")
   gp-stored r e told = told ∙ ap (λ (x : List ℕ). same x (text "_gp_disp")) (joined-none a n e ∙ is)
+
+  -- a name is empty where nothing is stored and there is no count
+  pub unnamed-parts : (r e : Bool) → e ≡ same a [] → r ≡ (eqb n 0 && e) → r ≡ eqb (length w) 0
+  unnamed-parts r e told put = put ∙ by-test (eqb n 0)
+      (λ t. rw t (told ∙ empty-same a ∙ ap (λ (x : List ℕ). eqb (length x) 0) (joined-none a n (eqb-true n 0 t) ∙ is)))
+      (λ f.
+      let l : length (countTail n) ≡ length (58 ∷ digitsText 9 n) = ap length (tail-some n (eqb-false n 0 f)) in
+      rw f (sym (ne-eqb (length w) 0 (λ z. omega (arith, l, z, length-append a (countTail n), ap length is)))))

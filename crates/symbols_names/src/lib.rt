@@ -9,7 +9,7 @@ ghost use lib.Dec.{eqb};
 ghost use Rattle.base_lists.specs.Strings.{same};
 ghost use Rattle.base_scope.specs.Limits.{SYMBOL_LIMIT, STATIC_LIMIT};
 ghost use Rattle.base_scope.specs.Text.{text};
-ghost use Rattle.elf_symbols.specs.Symbols.{symbolCount, symbol, Table};
+ghost use Rattle.elf_symbols.specs.Symbols.{symbolCount, symbol, symbolName, Table};
 ghost use Rattle.statics_table.specs.Statics.{countTail};
 ghost use Rattle.statics_table.specs.Table.{staticsIn};
 ghost use Rattle.symbols_ids.specs.Ids.{nameOf};
@@ -89,6 +89,41 @@ pub fn stored_name<'a>(
     }
     let s = Static::read(statics, id - first);
     base_names::name_at(compiled, s.start as usize)
+}
+
+// Whether symbol k of an object is named `s`. The name is read no further than its first byte that differs.
+fn is_symbol_named(order: ByteOrder, file: &[u8], table: SymbolTable, k: usize, s: &[u8]) -> bool
+    requires { ⌜ Table order (now file) table × (k < symbolCount order (now file)) ⌝ }
+    ensures { λ r. ⌜ r ≡ same (symbolName order (now (file .entry)) k) (now (s .entry)) ⌝ }
+{
+    let strings = elf_symbols::strings_of(file, table);
+    let at = name_start(order, file, table, k);
+    base_names::name_is(strings, at, s)
+}
+
+// Whether the stored name of an id is `s`, read no further than its first byte that differs: names may be long, and each id is asked.
+fn is_stored(
+    order: ByteOrder,
+    compiled: &[u8],
+    assembled: &[u8],
+    statics: &[u8],
+    sources: Sources,
+    id: usize,
+    s: &[u8],
+) -> bool
+    requires { ⌜ SourcesRead order (now compiled) (now assembled) (now statics) sources × (id < firstIn sources + sources .statics) ⌝ }
+    ensures { λ r. ⌜ r ≡ same (storedOf order (now (compiled .entry)) (now (assembled .entry)) (staticsIn (now (statics .entry)) (sources .statics)) id) (now (s .entry)) ⌝ }
+{
+    let own = sources.compiled;
+    if id < own.count {
+        return is_symbol_named(order, compiled, own, id, s);
+    }
+    let first = first_static(sources);
+    if id < first {
+        return is_symbol_named(order, assembled, sources.assembled, id - own.count, s);
+    }
+    let row = Static::read(statics, id - first);
+    base_names::name_is(compiled, row.start as usize, s)
 }
 
 // The count behind the stored name of an id; 0 where there is none.
@@ -181,23 +216,6 @@ fn is_joined_same(a: &[u8], m: u32, b: &[u8], n: u32) -> bool
     true
 }
 
-// How many bytes the working name of an id has.
-pub fn name_length<'a>(
-    order: ByteOrder,
-    compiled: &'a [u8],
-    assembled: &'a [u8],
-    statics: &[u8],
-    sources: Sources,
-    id: usize,
-) -> usize
-    requires { ⌜ SourcesRead order (now compiled) (now assembled) (now statics) sources × (id < firstIn sources + sources .statics) ⌝ }
-    ensures { λ r. ⌜ r ≡ length (nameOf order (now (compiled .entry)) (now (assembled .entry)) (staticsIn (now (statics .entry)) (sources .statics)) id) ⌝ }
-{
-    let stored = stored_name(order, compiled, assembled, statics, sources, id);
-    let count = name_count(statics, sources, id);
-    joined_length(stored, count)
-}
-
 // Whether an id has no name.
 pub fn is_unnamed<'a>(
     order: ByteOrder,
@@ -210,8 +228,9 @@ pub fn is_unnamed<'a>(
     requires { ⌜ SourcesRead order (now compiled) (now assembled) (now statics) sources × (id < firstIn sources + sources .statics) ⌝ }
     ensures { λ r. ⌜ r ≡ eqb (length (nameOf order (now (compiled .entry)) (now (assembled .entry)) (staticsIn (now (statics .entry)) (sources .statics)) id)) 0 ⌝ }
 {
-    let n = name_length(order, compiled, assembled, statics, sources, id);
-    n == 0
+    let count = name_count(statics, sources, id);
+    let empty = is_stored(order, compiled, assembled, statics, sources, id, b"");
+    base_scope::both(count == 0, empty)
 }
 
 // Whether the working name of an id is `_gp_disp`; one with a count has a colon.
@@ -230,26 +249,15 @@ pub fn is_gp_disp<'a>(
     if count != 0 {
         return false;
     }
-    let stored = stored_name(order, compiled, assembled, statics, sources, id);
-    base_names::same_bytes(stored, b"_gp_disp")
-}
-
-// Byte j of the working name of an id.
-pub fn name_byte<'a>(
-    order: ByteOrder,
-    compiled: &'a [u8],
-    assembled: &'a [u8],
-    statics: &[u8],
-    sources: Sources,
-    id: usize,
-    j: usize,
-) -> u8
-    requires { ⌜ SourcesRead order (now compiled) (now assembled) (now statics) sources × (id < firstIn sources + sources .statics) × (j < length (nameOf order (now compiled) (now assembled) (staticsIn (now statics) (sources .statics)) id)) ⌝ }
-    ensures { λ r. ⌜ r ≡ getD (nameOf order (now (compiled .entry)) (now (assembled .entry)) (staticsIn (now (statics .entry)) (sources .statics)) id) j 0 ⌝ }
-{
-    let stored = stored_name(order, compiled, assembled, statics, sources, id);
-    let count = name_count(statics, sources, id);
-    joined_byte(stored, count, j)
+    is_stored(
+        order,
+        compiled,
+        assembled,
+        statics,
+        sources,
+        id,
+        b"_gp_disp",
+    )
 }
 
 // Whether two ids have one working name. Behind equal counts the stored names decide.

@@ -5,6 +5,7 @@ ghost use mathlib.Core.Bool.{true, not, _&&_};
 ghost use Prim.Native.Nat.{_+_, _≤_, _<_};
 ghost use lib.Dec.{eqb, ltb};
 ghost use lib.ListN.{length, getD};
+ghost use Rattle.base_lists.specs.Strings.{prefixed, nameAt};
 ghost use Rattle.base_lists.specs.Windows.{Within, spliced};
 ghost use Rattle.base_packed.specs.Packed.{symbolOf};
 ghost use Rattle.base_buffers.specs.Buffers.{zeros};
@@ -128,13 +129,35 @@ pub fn mark_used(order: ByteOrder, assembled: &[u8], view: View, used: &mut [u8]
     mark_tables(order, assembled, view, &mut used[0..n]);
 }
 
+// Whether the name at `at` begins with a prefix. It is read no further than its first byte that differs, so a long name costs nothing.
+fn name_begins(t: &[u8], at: usize, p: &[u8]) -> bool
+    ensures { λ r. ⌜ r ≡ prefixed (now (p .entry)) (nameAt (now (t .entry)) at) ⌝ }
+{
+    let mut i: usize = 0;
+    let mut next = at;
+    while i < p.len() {
+        if next >= t.len() {
+            return false;
+        }
+        if t[next] == 0 {
+            return false;
+        }
+        if t[next] != p[i] {
+            return false;
+        }
+        i += 1;
+        next += 1;
+    }
+    true
+}
+
 // Whether the name of symbol k begins `_asmpp_`.
 pub fn is_helper(order: ByteOrder, file: &[u8], at: usize, strings: &[u8], k: usize) -> bool
     requires { ⌜ Entries order (now file) at (now strings) × (k < symbolCount order (now file)) ⌝ }
     ensures { λ r. ⌜ r ≡ isHelper order (now (file .entry)) k ⌝ }
 {
-    let name = elf_symbols::symbol_name(order, file, at, strings, k);
-    base_names::has_prefix(name, b"_asmpp_")
+    let entry = elf_symbols::symbol_at(order, file, at, k);
+    name_begins(strings, entry.st_name as usize, b"_asmpp_")
 }
 
 // Whether C's symbol k is taken.

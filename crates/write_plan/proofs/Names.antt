@@ -2,7 +2,7 @@
 use Prim.Native.Nat.{ℕ, zero, suc, _+_, _-_, _≤_, _<_}
 use mathlib.Core.Path.{_≡_, refl, sym, ap, _∙_}
 use mathlib.Core.Bool.{true, false}
-use mathlib.Core.List.{List}
+use mathlib.Core.List.{List, []}
 use native.Mathlib.Omega.{arith}
 use lib.ListN.{length}
 use lib.Dec.{ltb}
@@ -14,6 +14,7 @@ use Rattle.base_scope.specs.declared.Finding.the-variants.{Clear}
 use Rattle.elf_records.specs.declared.symbol.SymbolEntry.{SymbolEntry}
 use Rattle.elf_readers.specs.Readers.{header, isStrtab}
 use Rattle.elf_symbols.specs.Symbols.{symbolCount, symbol, symbolStrings, symbolName}
+use Rattle.elf_symbol_faults.proofs.Faults.{zero-fields}
 use Rattle.elf_check.specs.Sound.{Sound}
 use Rattle.blocks_places.specs.Places.{Place}
 use Rattle.statics_table.specs.declared.Static.{Static}
@@ -24,11 +25,12 @@ use Rattle.statics_walk.specs.Sound.{StaticsSound}
 use Rattle.statics_walk.proofs.Sound.{statics-sound}
 use Rattle.statics_symbols.specs.Entries.{symbolOfStatic, staticSymbol}
 use Rattle.symbols_ids.specs.Entries.{finished, entryA}
+use Rattle.symbols_taken.specs.Taken.{isTakenC, isTakenA}
 use Rattle.symbols_merge.specs.Candidates.{Candidates}
 use Rattle.symbols_merge.specs.Merged.{mergedCount, mergedAt}
 use Rattle.symbols_merge.proofs.Merged.{merged-taken}
 use Rattle.symbols_ids.specs.Ids.{firstA, firstStatic, byOrigin, entryStatic, entryOf, candidates, mergeCandidates}
-use Rattle.symbols_ids.specs.Table.{resultEntry}
+use Rattle.symbols_ids.specs.Table.{nullEntry, resultEntry}
 use Rattle.write_strings.specs.Strings.{resultStrings}
 use Rattle.write_strings.proofs.Names.{Full, name-of-c, end-of-c, name-of-a, end-of-a, name-of-static, end-of-static}
 use Rattle.write_object.specs.Object.{movedFinding}
@@ -168,21 +170,52 @@ module _ (o : ByteOrder) (C A : List ℕ) (P : List Place) (B path : List ℕ) (
   abbrev listed-statics : List Static
   listed-statics = statics o C mode (length (nameHead mode path))
 
-  entry-at : (k : ℕ) → 1 ≤ k → resultEntry o C A P B mode listed-statics k ≡ entryOf o C A P B mode listed-statics (mergedAt symbols k)
+  -- entry k, from 1 on, is that of a candidate that is taken
+  pub entry-at : (k : ℕ) → 1 ≤ k → resultEntry o C A P B mode listed-statics k ≡ entryOf o C A P B mode listed-statics (mergedAt symbols k)
   unfolding resultEntry mergeCandidates
   entry-at zero l = absurd (omega arith)
   entry-at (suc k) l = refl
 
-  candidate-low : (k : ℕ) → 1 ≤ k → k < mergedCount symbols → mergedAt symbols k < symbolCount o C + symbolCount o A + length listed-statics
+  pub candidate-at : (k : ℕ) → 1 ≤ k → k < mergedCount symbols
+      → (mergedAt symbols k < symbolCount o C + symbolCount o A + length listed-statics) × (byOrigin o C A (isTakenC o C) (isTakenA o A) (λ j. true) (mergedAt symbols k) ≡ true)
   unfolding mergeCandidates candidates firstStatic firstA
-  candidate-low k l h = merged-taken symbols k l h .0
+  candidate-at k l h = merged-taken symbols k l h
 
   pub name-merged : movedFinding (mergedPlan o C A P B path flag mode) o ≡ Clear → Sound o C → isStrtab o C (header o C .«e_shstrndx») ≡ true → Sound o A → Full path
       → (k : ℕ) → 1 ≤ k → k < mergedCount symbols
       → symbolName o (mergedObject o C A P B path flag mode) k ≡ nameWritten o C A mode path listed-statics (mergedAt symbols k)
   name-merged clear sound names soundA full k l h =
-      let n = named-all o C A P B mode path listed-statics sound soundA (statics-sound o C mode (length (nameHead mode path))) full (mergedAt symbols k) (candidate-low k l h) in
+      let n = named-all o C A P B mode path listed-statics sound soundA (statics-sound o C mode (length (nameHead mode path))) full (mergedAt symbols k) (candidate-at k l h .0) in
       let e : resultEntry o C A P B mode listed-statics k .«st_name» ≡ entryOf o C A P B mode listed-statics (mergedAt symbols k) .«st_name» = ap (λ (x : SymbolEntry). x .«st_name») (entry-at k l) in
       symbol-name-merged o C A P B path flag mode clear sound names k h (ap (hasEnd (resultStrings o C A mode path listed-statics)) e ∙ n .ended)
       ∙ ap (nameAt (resultStrings o C A mode path listed-statics)) e
       ∙ n .is
+
+  -- entry 0 is zeros, and its name is the empty one of C's
+  module _ (sound : Sound o C) where
+    null-starts : symbol o C 0 .«st_name» ≡ 0
+    null-starts = zero-fields (symbol o C 0) (sound .null) .name
+
+    pub null-ended : hasEnd (symbolStrings o C) 0 ≡ true
+    null-ended = ap (hasEnd (symbolStrings o C)) (sym null-starts) ∙ sound .symbolEnds 0 (sound .tabled .some)
+
+    pub null-is : resultEntry o C A P B mode listed-statics 0 ≡ nullEntry
+    unfolding resultEntry
+    null-is = refl
+
+    null-at : resultEntry o C A P B mode listed-statics 0 .«st_name» ≡ 0
+    unfolding nullEntry
+    null-at = ap (λ (x : SymbolEntry). x .«st_name») null-is
+
+    pub null-end : hasEnd (resultStrings o C A mode path listed-statics) (resultEntry o C A P B mode listed-statics 0 .«st_name») ≡ true
+    null-end = ap (hasEnd (resultStrings o C A mode path listed-statics)) null-at ∙ end-of-c o C A mode path listed-statics 0 null-ended
+
+    pub null-unnamed : movedFinding (mergedPlan o C A P B path flag mode) o ≡ Clear → isStrtab o C (header o C .«e_shstrndx») ≡ true → 0 < mergedCount symbols
+        → symbolName o (mergedObject o C A P B path flag mode) 0 ≡ []
+    unfolding symbolName
+    null-unnamed clear names h =
+        symbol-name-merged o C A P B path flag mode clear sound names 0 h null-end
+        ∙ ap (nameAt (resultStrings o C A mode path listed-statics)) null-at
+        ∙ name-of-c o C A mode path listed-statics 0 null-ended
+        ∙ ap (nameAt (symbolStrings o C)) (sym null-starts)
+        ∙ sound .unnamed

@@ -36,7 +36,7 @@ use Rattle.write_plan.specs.Plan.{newNames, isPlannedTable, tableBytes, 
 -- ---- types in C
 
 -- the codes below .bss are of type PROGBITS
-front-type : (c : ℕ) → 1 ≤ c → c < BSS → codeType c ≡ SHT_PROGBITS
+pub front-type : (c : ℕ) → 1 ≤ c → c < BSS → codeType c ≡ SHT_PROGBITS
 unfolding codeType sectionCodes
 front-type c l h = by-lt c 2
     (λ a. let e : c ≡ 1 = omega arith in rw e)

@@ -16,10 +16,10 @@ use Rattle.symbols_glabels.proofs.mark_named.Statement.{statement}
 use Rattle.symbols_glabels.proofs.mark_named.Tie as tie
 
 abbrev Inv-loop : tie.InvT-loop
-Inv-loop order assembled index name put marks₀ strings at n k₀ marks k = Walked (isSymbolNamed order assembled name) put (hashOf name) index (symbolCount order assembled) marks₀ marks k
+Inv-loop order assembled index name put marks₀ strings at n hash k₀ marks k = Walked (isSymbolNamed order assembled name) put (hashOf name) index (symbolCount order assembled) marks₀ marks k
 
 abbrev μ-loop : tie.MeasureT-loop
-μ-loop order assembled index name put marks₀ strings at n k₀ marks k = n - k
+μ-loop order assembled index name put marks₀ strings at n hash k₀ marks k = n - k
 
 strings-of-requires : tie.Need-strings-of-requires Inv-loop μ-loop
 strings-of-requires c κs =
@@ -50,6 +50,8 @@ mark-symbol-requires c κs =
       omega (arith, table-count (a .order) (now (a .assembled)) (a .symbols) (b .pre .0)),
       b .pre .2,
       omega (arith, b .pre .3 .room, l .inv .long),
+      b .pre .1,
+      c .before .before .before .before .hash-of .ensures,
     )
 
 next-of-requires : tie.Need-next-of-requires Inv-loop μ-loop

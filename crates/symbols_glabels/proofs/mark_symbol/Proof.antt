@@ -14,7 +14,7 @@ is-named-requires c κs = search needs
 
 renew-requires : tie.Need-renew-requires
 renew-requires c κs =
-    let b = c .before .before .before .before .before .before .before in
+    let b = c .before .before .before .before .before .before .before .before in
     (omega (arith, b .pre .2), omega (arith, b .pre .1, b .pre .0 .tabled .few), b .pre .3)
 
 same-length : tie.Need-same-length
@@ -22,14 +22,14 @@ same-length c = search needs
 
 returns : tie.Need-returns
 returns c =
-    let b = c .before .before .before .before .before .before .before .before .before .before in
+    let b = c .before .before .before .before .before .before .before .before .before .before .before in
     let a = b .args in
     visit-yes (a .put) (a .k) SYMBOL_LIMIT (now (a .marks)) (isSymbolNamed (a .order) (now (a .assembled)) (now (a .name))) (symbolCount (a .order) (now (a .assembled))) (c .before .before .renew .result) _
     (sym (c .before .before .before .before .before .is-named .ensures) ∙ c .before .before .before .before .if1 .taken) (b .pre .0 .tabled .few) (c .before .before .renew .ensures)
 
 returns-2 : tie.Need-returns-2
 returns-2 c =
-    let a = c .before .before .before .before .before .before .args in
+    let a = c .before .before .before .before .before .before .before .args in
     visit-no (a .put) (a .k) (symbolCount (a .order) (now (a .assembled))) (now (a .marks)) (isSymbolNamed (a .order) (now (a .assembled)) (now (a .name))) (sym (c .before .is-named .ensures) ∙ c .if1 .left)
 
 pub mark-symbol-spec : {M : Type 1} → statement M
