@@ -1,0 +1,3 @@
+pub mod Codes
+pub mod Owed
+pub mod References

@@ -1,0 +1,9 @@
+pub mod Everything
+pub mod Merge
+pub mod Object
+pub mod Entries
+pub mod Once
+pub mod Right
+pub mod Wrong
+pub mod Late
+pub mod Theorem

@@ -1,0 +1,4 @@
+pub mod Ids
+pub mod Names
+pub mod Symbols
+pub mod Leads

@@ -1,0 +1,3 @@
+pub mod Limits
+pub mod Accepted
+pub mod Numbers

@@ -1,4 +1,0 @@
-pub mod Limits
-pub mod Sections
-pub mod Result
-pub mod Accepted
