@@ -1,4 +1,4 @@
-"""Jobs of the merge in which relocation tables are the point, for tools/splice_jobs.py: tables of C and of A by type, target and name, dropped sections, entries that are
+"""Jobs of the merge in which relocation tables are the point, for tools/merge_jobs.py: tables of C and of A by type, target and name, dropped sections, entries that are
 left out, renumbered or moved.
 
 Each changes one thing or is random; what comes of it is the model's to say.

@@ -22,17 +22,25 @@ def uses(name):
 
 
 def made(name):
-    imports, names = [], []
+    modules = []  # crate, module, its definitions
     for crate in uses(name):
         for path in sorted(glob.glob(f"crates/{crate}/specs/*.antt")):
             found = UNFOLDABLE.findall(open(path, encoding="utf-8").read())
             if found:
-                module = os.path.basename(path)[: -len(".antt")]
-                imports.append(f"use Rattle.{crate}.specs.{module}.{{{', '.join(found)}}}")
-                names += found
-    twice = sorted({n for n in names if names.count(n) > 1})
+                modules.append((crate, os.path.basename(path)[: -len(".antt")], found))
+    every = [n for _, _, found in modules for n in found]
+    imports, names, prefixes = [], [], []
+    for crate, module, found in modules:
+        plain = [n for n in found if every.count(n) == 1]
+        if plain:
+            imports.append(f"use Rattle.{crate}.specs.{module}.{{{', '.join(plain)}}}")
+        if len(plain) < len(found):  # a name that two modules have goes by its module
+            imports.append(f"use Rattle.{crate}.specs.{module} as {module}")
+            prefixes.append(module)
+        names += [n if every.count(n) == 1 else f"{module}.{n}" for n in found]
+    twice = sorted({m for m in prefixes if prefixes.count(m) > 1})
     if twice:
-        sys.exit(f"two definitions have one name: {', '.join(twice)}")
+        sys.exit(f"two modules of one name share names with others: {', '.join(twice)}")
     return "\n".join(
         ["-- Made by tools/everything.py: one name that opens every definition of the crates that this one uses.", "use Prim.Native.Nat.{ℕ}"]
         + imports

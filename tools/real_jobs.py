@@ -1,13 +1,13 @@
 #!/usr/bin/env python3
-"""Real jobs: compiles C with Debian's MIPS compiler, drafts with the command, assembles that draft with the real assembler, and compares.
+"""Real jobs: compiles C with Debian's MIPS compiler, drafts with the command, assembles that draft with the real assembler, merges with the command, and compares.
 
   tools/real_jobs.py --install     installs gcc-mips-linux-gnu and binutils-mips-linux-gnu (as root)
   tools/real_jobs.py [FOLDER]      makes the jobs (in FOLDER, or in one that is removed) and compares
 
 Needs host/target/release/daphulle and oracle/target/release/oracle (`cargo build --release` in host/ and in oracle/). For each source, ABI and set of options,
 every second function and object of the compiled object becomes a block of its own size, written anew in assembly. Compared: the command's draft with the
-Rust's, byte for byte; in the object that the assembler makes of it, the two labels of every block with place and place + size; and whether the Rust merges that
-object, so that the draft is one to build with, or refuses it where the model of document 01 (MODEL, by default ../shared/model) does.
+Rust's, byte for byte; in the object that the assembler makes of it, the two labels of every block with place and place + size; and, in every mode and with both flags,
+the command's merged object with the Rust's, byte for byte, or its refusal with that of the model of document 01 (MODEL, by default ../shared/model).
 """
 import os
 import struct
@@ -16,9 +16,12 @@ import sys
 import tempfile
 
 TOP = os.path.dirname(os.path.dirname(os.path.abspath(__file__)))
+sys.path.insert(0, os.environ.get('MODEL', os.path.join(TOP, '..', 'shared', 'model')))
+import model  # noqa: E402
+
 DAPHULLE = os.path.join(TOP, 'host', 'target', 'release', 'daphulle')
-MODEL = os.environ.get('MODEL', os.path.join(TOP, '..', 'shared', 'model'))
 ORACLE = os.path.join(TOP, 'oracle', 'target', 'release', 'oracle')
+MODES = 'no', 'local', 'global', 'global-with-filename'
 
 # What a firmware's C has: calls, statics, tables, jump tables, floating point constants, strings, weak and common symbols.
 SOURCES = {
@@ -119,22 +122,30 @@ def blocks_of(compiled):
     return file, spans
 
 
-def refused_by_model(*files):
-    """whether document 01 refuses the merge of C, A and a block file"""
-    sys.path.insert(0, MODEL)
-    import model
-    compiled, assembled, blocks = (open(name, 'rb').read() for name in files)
-    return model.merge(compiled, assembled, blocks, b'c.o', 0, 0)[0] == 'refused'
+def merges(path):
+    """what went wrong with a merge in any mode and with either flag, or nothing, and the number of merged objects"""
+    count = 0
+    compiled, assembled, blocks = (open(path(name), 'rb').read() for name in ('c.o', 'a.o', 'blocks'))
+    for mode, flag in ((mode, flag) for mode in range(4) for flag in range(2)):
+        drop = ['--drop-mdebug-gptab'] if flag else []
+        status, merged, words = run(DAPHULLE, 'merge', path('c.o'), path('a.o'), '--blocks', path('blocks'), '--path', 'c.o', '--convert-statics', MODES[mode], *drop, '-o', '-')
+        got = model.merge(compiled, assembled, blocks, b'c.o', flag, mode)
+        if got[0] == 'refused' and (status == 0 or 'refused %d %d %d' % got[1:] not in words):
+            return f'mode {mode}, flag {flag}: the model has {got}, the command {words.strip()}', 0
+        if got[0] == 'ok' and (status, merged) != run(ORACLE, 'merge', path('c.o'), path('a.o'), path('prelude'), path('blocks'), 'c.o', str(flag), str(mode))[:2]:
+            return f'mode {mode}, flag {flag}: the Rust has another object; the command: {words.strip()}', 0
+        count += got[0] == 'ok'
+    return '', count
 
 
 def job(folder, source, options):
-    """what went wrong, or nothing, and the number of blocks"""
+    """what went wrong, or nothing, and the numbers of blocks and of merged objects"""
     path = lambda name: os.path.join(folder, name)  # noqa: E731
     with open(path('c.c'), 'w') as f:
         f.write(SOURCES[source])
-    status, _, words = run('mips-linux-gnu-gcc', *options, '-fno-toplevel-reorder', '-c', path('c.c'), '-o', path('c.o'))
+    status, _, words = run('mips-linux-gnu-gcc', *options, '-Wa,-mno-pdr', '-fno-toplevel-reorder', '-c', path('c.c'), '-o', path('c.o'))
     if status:
-        return f'the compiler: {words}', 0
+        return f'the compiler: {words}', 0, 0
     with open(path('c.o'), 'rb') as f:
         blocks, spans = blocks_of(f.read())
     for name, data in (('blocks', blocks), ('prelude', PRELUDE)):
@@ -142,40 +153,38 @@ def job(folder, source, options):
             f.write(data)
     status, _, words = run(DAPHULLE, 'draft', path('c.o'), '--prelude', path('prelude'), '--blocks', path('blocks'), '-o', path('a.s'))
     if status:
-        return words.strip(), 0
+        return words.strip(), 0, 0
     with open(path('a.s'), 'rb') as f:
         draft = f.read()
     status, rust, words = run(ORACLE, 'draft', path('c.o'), path('prelude'), path('blocks'))
     if status or rust != draft:
-        return f'the Rust: another draft {words}', 0
+        return f'the Rust: another draft {words}', 0, 0
     machine = [x for x in options if x.startswith('-mabi') or x.startswith('-mips')]
     status, _, words = run('mips-linux-gnu-as', '-EB', '-mno-pdr', *machine, path('a.s'), '-o', path('a.o'))
     if status:
-        return f'the assembler: {words}', 0
+        return f'the assembler: {words}', 0, 0
     with open(path('a.o'), 'rb') as f:
         at = {name: value for name, value, *_ in symbols(f.read())}
     for label, place, size in spans:
         if (at.get(label + b'_asm_start'), at.get(label + b'_asm_end')) != (place, place + size):
-            return f'{label.decode()} does not stand at {place} to {place + size}', 0
-    status, _, words = run(ORACLE, 'merge', path('c.o'), path('a.o'), path('prelude'), path('blocks'), 'c.o', '0', '0')
-    if status and not refused_by_model(path('c.o'), path('a.o'), path('blocks')):
-        return f'the Rust does not merge it: {words.strip()}', 0
-    return '', len(spans)
+            return f'{label.decode()} does not stand at {place} to {place + size}', 0, 0
+    fault, count = merges(path)
+    return fault, len(spans), count
 
 
 def main(folder):
-    count = total = wrong = 0
+    count = total = merged = wrong = 0
     for source in SOURCES:
         for n, options in enumerate(OPTIONS):
             place = os.path.join(folder, f'{source}_{n}')
             os.makedirs(place, exist_ok=True)
-            fault, blocks = job(place, source, options)
-            count, total = count + 1, total + blocks
+            fault, blocks, objects = job(place, source, options)
+            count, total, merged = count + 1, total + blocks, merged + objects
             if fault:
                 wrong += 1
                 print(f'{source} {" ".join(options)}: {fault}')
-    print(f'{count} real jobs with {total} blocks, {wrong} differences')
-    return 1 if wrong or total == 0 else 0
+    print(f'{count} real jobs with {total} blocks, {merged} merged objects, {wrong} differences')
+    return 1 if wrong or total == 0 or merged == 0 else 0
 
 
 if __name__ == '__main__':

@@ -15,7 +15,7 @@ import os, random, re, struct, subprocess, sys, tempfile
 TOP = os.path.dirname(os.path.dirname(os.path.abspath(__file__)))
 sys.path.insert(0, os.path.join(TOP, 'tools'))
 sys.path.insert(0, os.environ.get('MODEL', os.path.join(TOP, '..', 'shared', 'model')))
-import model, splice_jobs, symbol_jobs  # noqa: E402
+import merge_jobs, model, symbol_jobs  # noqa: E402
 
 OUT = os.path.join(TOP, 'crates', 'prog_statics_jobs')
 DEBUG = 0x70000005
@@ -432,7 +432,7 @@ def compare(seed, count):
         f.write(b''.join(packed(*job) for job in every))
         f.flush()
         out = subprocess.run([os.path.join(TOP, 'target', 'bin', 'prog_statics_jobs'), f.name], stdout=subprocess.PIPE, check=True).stdout
-    rust, at, refused, listed, merged, limits, wrong = splice_jobs.Rust(), 0, 0, 0, 0, 0, 0
+    rust, at, refused, listed, merged, limits, wrong = merge_jobs.Rust(), 0, 0, 0, 0, 0, 0
     for k, (b, mode, path, by) in enumerate(every):
         line = f'job {k} '.encode() + answer(b, mode, path, by)
         if out[at:at + len(line)] != line:

@@ -1,4 +1,4 @@
-"""Jobs of the merge in which symbols are the point, for tools/splice_jobs.py: made objects with symbol tables, relocation tables of A, glabels, late symbols and statics.
+"""Jobs of the merge in which symbols are the point, for tools/merge_jobs.py: made objects with symbol tables, relocation tables of A, glabels, late symbols and statics.
 
 Each changes one thing or is random; what comes of it is the model's to say.
 """

@@ -5,7 +5,7 @@
   tools/write_jobs.py SEED COUNT    runs COUNT other objects, made and damaged, through target/bin/prog_write_jobs, and compares each answer with the model's
 
 What is expected comes from the model of document 01 (MODEL, by default ../shared/model): refusals 1 to 6, the 17 of a debug section that moves, 21, or the object. Real
-objects are those of the jobs of prog_splice_jobs.
+objects are those of the jobs of prog_merge_jobs.
 """
 import os
 import random
@@ -17,8 +17,7 @@ import tempfile
 TOP = os.path.dirname(os.path.dirname(os.path.abspath(__file__)))
 sys.path.insert(0, os.path.join(TOP, 'tools'))
 sys.path.insert(0, os.environ.get('MODEL', os.path.join(TOP, '..', 'shared', 'model')))
-import model, splice_jobs, statics_jobs, symbol_jobs  # noqa: E402
-from carry_jobs import header_word  # noqa: E402
+import carry_jobs, merge_jobs, model, statics_jobs, symbol_jobs  # noqa: E402
 
 FOLDER = os.path.join(TOP, 'crates', 'prog_write_jobs')
 ROOM = 1310720
@@ -41,7 +40,7 @@ def with_words(b, chance, *choices):
     for field, values in choices:
         for i in range(1, model.be16(b, 48)):
             if chance.randrange(3) == 0:
-                b = header_word(b, i, field, chance.choice(values))
+                b = carry_jobs.header_word(b, i, field, chance.choice(values))
     return b
 
 
@@ -60,7 +59,7 @@ def debug_at(chance, whole=True):
 def overlapped(chance):
     """sections that lie in one another, and a null section with an offset"""
     b = object_of(chance)
-    b = header_word(b, 0, SH_OFFSET, chance.choice((0, 52, 0xFFFFFFFF)))
+    b = carry_jobs.header_word(b, 0, SH_OFFSET, chance.choice((0, 52, 0xFFFFFFFF)))
     return with_words(b, chance, (SH_OFFSET, (52, 53, 60)))
 
 
@@ -95,7 +94,7 @@ def made_jobs(seed, count):
 
 def real_objects():
     """a C and an A of each kind that a toolchain made"""
-    jobs = [job for job in splice_jobs.recorded() if b'\0.gnu.attributes\0' in job.compiled]
+    jobs = [job for job in merge_jobs.recorded() if b'\0.gnu.attributes\0' in job.compiled]
     return [(b, ROOM) for job in jobs[::4] for b in (job.compiled, job.assembled)]
 
 
@@ -122,7 +121,7 @@ def packed(job):
 
 def listed_jobs():
     whole = object_of(random.Random(3))
-    limits = [(whole.ljust(n, b'\0'), ROOM) for n in (model.FILE_LIMIT, model.FILE_LIMIT + 1)] + [(header_word(whole, 1, SH_ALIGN, n), ROOM) for n in (65536, 65537)]
+    limits = [(whole.ljust(n, b'\0'), ROOM) for n in (model.FILE_LIMIT, model.FILE_LIMIT + 1)] + [(carry_jobs.header_word(whole, 1, SH_ALIGN, n), ROOM) for n in (65536, 65537)]
     return [*made_jobs(1, 220), *real_objects(), *limits, (b'', ROOM), (whole[:51], ROOM)]
 
 
@@ -135,7 +134,7 @@ def compare(seed, count):
     at, accepted = 0, 0
     for k, job in enumerate(jobs):
         got = expected(*job)
-        line = splice_jobs.written(k, got)
+        line = merge_jobs.written(k, got)
         if out[at:at + len(line)] != line:
             sys.exit(f'object {k} of seed {seed}: the model has {line[:200]!r}, the program {out[at:at + 200]!r}')
         at += len(line)
@@ -154,10 +153,10 @@ def main():
     with open(os.path.join(FOLDER, 'args'), 'w') as f:
         f.write('jobs\n')
     with open(os.path.join(FOLDER, 'stdout'), 'wb') as f:
-        f.write(b''.join(splice_jobs.written(k, got) for k, got in enumerate(answers)) + b'job %d is not there\n' % len(jobs))
+        f.write(b''.join(merge_jobs.written(k, got) for k, got in enumerate(answers)) + b'job %d is not there\n' % len(jobs))
     counts = {}
     for got in answers:
-        n = splice_jobs.number_of(got)
+        n = merge_jobs.number_of(got)
         counts[n] = counts.get(n, 0) + 1
     print(f'{len(jobs)} objects, {sum(len(packed(j)) for j in jobs)} bytes: ' + ', '.join(f'{counts[n]} refused by {n}' if n else f'{counts[n]} written' for n in sorted(counts)))
 

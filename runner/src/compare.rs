@@ -1,8 +1,8 @@
-//! Holds the proved draft against the unchanged Rust and the model, job by job.
+//! Holds the proved calls against the unchanged Rust and the model, job by job.
 
 use crate::{
     differences,
-    job::{Job, job},
+    job::{Job, Kind, job},
     port::{HELD, Port, Refusal, Verdict},
     random::Random,
     served::{Model, ModelAnswer, Rust, RustAnswer},
@@ -21,6 +21,7 @@ pub struct Others {
 
 /// What a run is to do: `jobs` jobs from index `first` on, as far as the time goes.
 pub struct Run {
+    pub kind: Kind,
     pub seed: u64,
     pub first: u64,
     pub jobs: u64,
@@ -31,11 +32,10 @@ pub struct Run {
 #[derive(Default)]
 pub struct Tally {
     pub jobs: u64,
-    /// Drafts that are the Rust's, byte for byte.
-    pub drafts: u64,
-    /// Drafts that are the model's. Where the Rust is there, the model is asked for those of jobs
-    /// with bytes over 127 alone, for which the Rust may give no verdict.
-    pub model_drafts: u64,
+    /// Drafts or merged objects that are the Rust's, byte for byte.
+    pub results: u64,
+    /// Those that are the model's, and merged objects that fulfil demand 3 as well.
+    pub model_results: u64,
     /// Drafts too long to be held, whose length is the model's.
     pub long: u64,
     /// Refusals by number, and how many of all were asked of the model.
@@ -49,8 +49,8 @@ pub struct Tally {
     /// Jobs that were held against a verdict of the Rust, and against one of the model.
     pub by_rust: u64,
     pub by_model: u64,
-    /// Drafts and refusals that were held against neither.
-    pub drafts_alone: u64,
+    /// Results and refusals that were held against neither.
+    pub results_alone: u64,
     pub refusals_alone: u64,
     /// A digest of each thousand answers, in order.
     pub digests: Vec<u64>,
@@ -65,6 +65,9 @@ pub struct Difference {
 /// Jobs that are made, called and compared in one go; their answers make one digest.
 pub const BATCH: u64 = 1000;
 
+/// One in so many merged objects is asked of the model, although the Rust is there.
+pub const SHARE: u64 = 8;
+
 pub fn compare(run: &Run, others: &mut Others) -> io::Result<(Tally, Vec<Difference>)> {
     let start = Instant::now();
     let mut tally = Tally::default();
@@ -77,7 +80,7 @@ pub fn compare(run: &Run, others: &mut Others) -> io::Result<(Tally, Vec<Differe
         next = indices.end;
         let mut batch = vec![];
         for index in indices {
-            let job = job(run.seed, index);
+            let job = job(run.kind, run.seed, index);
             // The lengths of the buffers must not change with the job's maker.
             let lengths = &mut Random::new(!run.seed, index);
             match port.answer(&job, lengths) {
@@ -106,15 +109,14 @@ pub fn held_against(
     let Others { rust, model } = others;
     let alone = rust.is_none();
     let (by_rust, by_model) = thread::scope(|scope| {
-        let by_rust = scope.spawn(|| ask(batch, rust, |rust, job, _| rust.draft(job)));
-        let by_model = ask(batch, model, |model, job, verdict| match verdict {
-            // The Rust is asked for these.
-            Verdict::Draft(_) if !alone && job.blocks.is_ascii() && job.prelude.is_ascii() => {
-                Ok(None)
+        let by_rust = scope.spawn(|| ask(batch, rust, |rust, (_, job, _)| rust.ask(job)));
+        let by_model = ask(batch, model, |model, answered| {
+            let (_, job, verdict) = answered;
+            match verdict {
+                Verdict::Done(_) if !alone && !is_models(answered) => Ok(None),
+                Verdict::Long(_) => model.ask(job, HELD).map(Some),
+                Verdict::Done(_) | Verdict::Refused(_) => model.ask(job, u64::MAX).map(Some),
             }
-            Verdict::Draft(_) => model.draft(job, u64::MAX).map(Some),
-            Verdict::Long(_) => model.draft(job, HELD).map(Some),
-            Verdict::Refused(_) => model.draft(job, u64::MAX).map(Some),
         });
         (by_rust.join().expect("the Rust's thread"), by_model)
     });
@@ -132,18 +134,23 @@ pub fn held_against(
     Ok(())
 }
 
+/// Whether the model is asked for a result besides the Rust: where there are bytes over 127 or a
+/// stem is long, for which the Rust may give no verdict, and for a share of the merged objects.
+fn is_models((index, job, _): &Answered) -> bool {
+    let text = job.blocks.is_ascii() && (job.kind() == Kind::Merge || job.second.is_ascii());
+    !text || differences::long_stem(job) || job.kind() == Kind::Merge && index % SHARE == 0
+}
+
 /// The answers of one of the others to a batch, if it is there.
 fn ask<T, A>(
     batch: &[Answered],
     other: &mut Option<T>,
-    mut question: impl FnMut(&mut T, &Job, &Verdict) -> io::Result<A>,
+    mut question: impl FnMut(&mut T, &Answered) -> io::Result<A>,
 ) -> io::Result<Option<Vec<A>>> {
     let Some(other) = other else {
         return Ok(None);
     };
-    let answers = batch
-        .iter()
-        .map(|(_, job, verdict)| question(other, job, verdict));
+    let answers = batch.iter().map(|answered| question(other, answered));
     answers.collect::<io::Result<Vec<A>>>().map(Some)
 }
 
@@ -158,11 +165,14 @@ fn judge(
     match model {
         None => (),
         Some(model) if agrees(verdict, model) => match verdict {
-            Verdict::Draft(_) => tally.model_drafts += 1,
+            Verdict::Done(_) => tally.model_results += 1,
             Verdict::Long(_) => tally.long += 1,
             Verdict::Refused(_) => tally.model_refusals += 1,
         },
-        Some(ModelAnswer::Draft(_)) => return Err(format!("the model accepts; {verdict}")),
+        Some(ModelAnswer::Done(_)) => return Err(format!("the model accepts; {verdict}")),
+        Some(ModelAnswer::Refused(Refusal { number: 99, .. })) => {
+            return Err(format!("demand 3 fails; {verdict}"));
+        }
         Some(ModelAnswer::Refused(r)) => {
             return Err(format!("the model: {}; {verdict}", Verdict::Refused(*r)));
         }
@@ -179,25 +189,32 @@ fn judge(
             *tally.no_verdict.entry(reason.into()).or_default() += 1;
             false
         }
-        (Verdict::Draft(draft), Some(RustAnswer::Draft(same))) if draft == same => {
-            tally.drafts += 1;
+        (Verdict::Done(bytes), Some(RustAnswer::Done(same))) if bytes == same => {
+            tally.results += 1;
             true
         }
-        (Verdict::Long(length), Some(RustAnswer::Draft(same))) if *length == same.len() as u64 => {
+        (Verdict::Long(length), Some(RustAnswer::Done(same))) if *length == same.len() as u64 => {
             true
         }
         (Verdict::Refused(_), Some(RustAnswer::Refused(_))) => {
             tally.refused_by_rust += 1;
             true
         }
-        (Verdict::Refused(refusal), Some(RustAnswer::Draft(_))) => {
+        (Verdict::Refused(refusal), Some(RustAnswer::Done(_))) => {
             let row = differences::row(*refusal, job)
                 .ok_or_else(|| format!("the Rust accepts, and no row has it; {verdict}"))?;
             *tally.differences.entry(row).or_default() += 1;
             true
         }
-        (_, Some(RustAnswer::Draft(_))) => {
-            return Err(format!("the Rust's draft is another; {verdict}"));
+        (_, Some(RustAnswer::Done(_))) => {
+            return Err(format!("the Rust's result is another; {verdict}"));
+        }
+        (Verdict::Done(_), Some(RustAnswer::Refused(_))) if differences::long_stem(job) => {
+            *tally
+                .no_verdict
+                .entry(differences::STEM.into())
+                .or_default() += 1;
+            false
         }
         (_, Some(RustAnswer::Refused(words))) => {
             return Err(format!("the Rust: {words}; {verdict}"));
@@ -208,14 +225,14 @@ fn judge(
     match verdict {
         _ if by_rust || model.is_some() => (),
         Verdict::Refused(_) => tally.refusals_alone += 1,
-        Verdict::Draft(_) | Verdict::Long(_) => tally.drafts_alone += 1,
+        Verdict::Done(_) | Verdict::Long(_) => tally.results_alone += 1,
     }
     Ok(())
 }
 
 fn agrees(verdict: &Verdict, model: &ModelAnswer) -> bool {
     match (verdict, model) {
-        (Verdict::Draft(draft), ModelAnswer::Draft(same)) => draft == same,
+        (Verdict::Done(bytes), ModelAnswer::Done(same)) => bytes == same,
         (Verdict::Long(length), ModelAnswer::Refused(r)) => {
             (r.number, r.object, r.place) == (21, 0, *length)
         }
@@ -234,9 +251,9 @@ fn digest<'a>(verdicts: impl Iterator<Item = &'a Verdict>) -> u64 {
     };
     for verdict in verdicts {
         match verdict {
-            Verdict::Draft(draft) => {
-                add(&(draft.len() as u64).to_be_bytes());
-                add(draft);
+            Verdict::Done(bytes) => {
+                add(&(bytes.len() as u64).to_be_bytes());
+                add(bytes);
             }
             other => add(other.to_string().as_bytes()),
         }
@@ -247,7 +264,7 @@ fn digest<'a>(verdicts: impl Iterator<Item = &'a Verdict>) -> u64 {
 impl fmt::Display for Verdict {
     fn fmt(&self, f: &mut fmt::Formatter<'_>) -> fmt::Result {
         match self {
-            Verdict::Draft(draft) => write!(f, "a draft of {} bytes", draft.len()),
+            Verdict::Done(bytes) => write!(f, "a result of {} bytes", bytes.len()),
             Verdict::Long(length) => write!(f, "a draft of {length} bytes"),
             Verdict::Refused(r) => write!(f, "refused {} {} {}", r.number, r.object, r.place),
         }
@@ -258,8 +275,12 @@ impl fmt::Display for Tally {
     fn fmt(&self, f: &mut fmt::Formatter<'_>) -> fmt::Result {
         let refused: u64 = self.refused.values().sum();
         writeln!(f, "{:>9} jobs", self.jobs)?;
-        writeln!(f, "{:>9} drafts are the Rust's", self.drafts)?;
-        writeln!(f, "{:>9} drafts are the model's", self.model_drafts)?;
+        writeln!(f, "{:>9} results are the Rust's", self.results)?;
+        writeln!(
+            f,
+            "{:>9} results are the model's (merged objects fulfil demand 3)",
+            self.model_results
+        )?;
         writeln!(
             f,
             "{:>9} drafts over {HELD} bytes have the model's length",
@@ -288,7 +309,7 @@ impl fmt::Display for Tally {
             writeln!(f, "{count:>19} {reason}")?;
         }
         for (count, what) in [
-            (self.drafts_alone, "drafts"),
+            (self.results_alone, "results"),
             (self.refusals_alone, "refusals"),
         ] {
             writeln!(
@@ -330,8 +351,8 @@ mod tests {
         let mut judge = |verdict, rust: Option<RustAnswer>, model: Option<ModelAnswer>| {
             judge(&job, &verdict, rust.as_ref(), model.as_ref(), &mut tally).is_ok()
         };
-        let draft = || Verdict::Draft(b"nop\n".to_vec());
-        let rust = |text: &[u8]| Some(RustAnswer::Draft(text.to_vec()));
+        let draft = || Verdict::Done(b"nop\n".to_vec());
+        let rust = |text: &[u8]| Some(RustAnswer::Done(text.to_vec()));
         let no = || Some(RustAnswer::Refused("panic".into()));
         let model = |number, place| Some(ModelAnswer::Refused(refused(number, place)));
         let ours = |number, place| Verdict::Refused(refused(number, place));
@@ -340,17 +361,24 @@ mod tests {
         assert!(!judge(draft(), rust(b"nop"), None));
         assert!(!judge(draft(), no(), None));
         assert!(!judge(draft(), rust(b"nop\n"), model(8, 0)));
-        assert!(!judge(draft(), None, Some(ModelAnswer::Draft(vec![]))));
+        assert!(!judge(draft(), None, Some(ModelAnswer::Done(vec![]))));
         assert!(!judge(Verdict::Long(5), rust(b"nop\n"), None));
         // Refusals: the model's number and place; what the Rust accepts is on a row.
         assert!(judge(ours(8, 3), no(), model(8, 3)));
         assert!(!judge(ours(8, 3), no(), model(9, 3)));
         assert!(!judge(ours(8, 3), no(), model(8, 2)));
-        assert!(!judge(ours(8, 3), no(), Some(ModelAnswer::Draft(vec![]))));
+        assert!(!judge(ours(8, 3), no(), Some(ModelAnswer::Done(vec![]))));
         assert!(!judge(ours(8, 3), rust(b""), model(8, 3)));
         assert!(judge(ours(2, 46), rust(b""), model(2, 46)));
         assert!(!judge(ours(2, 18), rust(b""), model(2, 18)));
         assert!(!judge(ours(5, 1), rust(b""), None));
+        // Merged objects: demand 3 besides.
+        assert!(judge(
+            draft(),
+            rust(b"nop\n"),
+            Some(ModelAnswer::Done(b"nop\n".to_vec()))
+        ));
+        assert!(!judge(draft(), rust(b"nop\n"), model(99, 0)));
     }
 
     #[test]
@@ -359,13 +387,13 @@ mod tests {
             let mut tally = Tally::default();
             let job = Job::default();
             for verdict in [
-                Verdict::Draft(vec![]),
+                Verdict::Done(vec![]),
                 Verdict::Long(5),
                 Verdict::Refused(refused(8, 0)),
                 Verdict::Refused(refused(7, 1)),
             ] {
                 let model = model.as_ref().map(|_| match &verdict {
-                    Verdict::Draft(draft) => ModelAnswer::Draft(draft.clone()),
+                    Verdict::Done(draft) => ModelAnswer::Done(draft.clone()),
                     Verdict::Long(length) => ModelAnswer::Refused(Refusal {
                         number: 21,
                         object: 0,
@@ -377,14 +405,14 @@ mod tests {
             }
             tally.to_string()
         };
-        let alone = |drafts, refusals| {
+        let alone = |results, refusals| {
             format!(
-                "{drafts:>9} drafts held against neither the Rust nor the model\n\
+                "{results:>9} results held against neither the Rust nor the model\n\
                  {refusals:>9} refusals held against neither the Rust nor the model\n"
             )
         };
         let silent = || Some(RustAnswer::NoVerdict("memory".into()));
-        let model = || Some(ModelAnswer::Draft(vec![]));
+        let model = || Some(ModelAnswer::Done(vec![]));
         assert!(report(None, None).ends_with(&alone(2, 2)));
         assert!(report(silent(), None).ends_with(&alone(2, 2)));
         assert!(report(None, model()).ends_with(&alone(0, 0)));

@@ -54,6 +54,58 @@ pub fn damage_object(random: &mut Random, file: &mut Vec<u8>, other: &[u8]) {
     }
 }
 
+/// Changes a field of an entry of a symbol table or of a relocation table, or the header of one.
+pub fn damage_entry(random: &mut Random, file: &mut [u8]) {
+    let word = |at: usize| match file.get(at..at + 4) {
+        Some(b) => u32::from_be_bytes([b[0], b[1], b[2], b[3]]),
+        None => 0,
+    };
+    let headers = word(32) as usize;
+    let count = word(48) as usize >> 16;
+    let headers = (0..count.min(200)).map(|i| headers.min(1 << 24) + 40 * i);
+    let entry = |at: usize| match word(at + 4) {
+        2 => 16,
+        4 => 12,
+        9 => 8,
+        _ => 0,
+    };
+    let tables: Vec<usize> = headers.filter(|&at| entry(at) > 0).collect();
+    if tables.is_empty() {
+        return;
+    }
+    let table = *random.pick(&tables);
+    let (start, size) = (word(table + 16) as usize, entry(table));
+    let entries = word(table + 20).min(1 << 20) as usize / size;
+    let at = start.min(1 << 24) + size * random.below(entries);
+    let (at, width) = match (random.below(8), size) {
+        (0, _) => (table + 28, 4),
+        (_, 16) => {
+            let (field, width) = *random.pick(&[(0, 4), (4, 4), (8, 4), (12, 1), (14, 2)]);
+            (at + field, width)
+        }
+        // The symbol of a relocation, or another word.
+        (1..=4, _) => (at + 6, 1),
+        (_, size) => (at + 4 * random.below(size / 4), 4),
+    };
+    let small = random.below(20) as u32;
+    let last = (count + random.below(3)).saturating_sub(1) as u32;
+    let Some(part) = file.get_mut(at..at + width) else {
+        return;
+    };
+    let mut word = [0; 4];
+    word[4 - width..].copy_from_slice(part);
+    let old = u32::from_be_bytes(word);
+    let new = match random.below(6) {
+        0 => old.wrapping_add(*random.pick(&[1, 4])),
+        1 => old.wrapping_sub(*random.pick(&[1, 4])),
+        2 => small,
+        3 => last,
+        4 => *random.pick(&[0, 0xff00, 0xfff1, 0xfff2, 0xffff_ffff]),
+        _ => old ^ 1 << random.below(8 * width),
+    };
+    part.copy_from_slice(&new.to_be_bytes()[4 - width..]);
+}
+
 /// A field of the file header, of a section header or of an early symbol, or any word.
 fn field(random: &mut Random, file: &[u8]) -> (usize, usize) {
     let word = |at: usize| match file.get(at..at + 4) {

@@ -1,7 +1,11 @@
-//! The rows of docs/DIFFERENCES.md that a draft can meet, by their first column: what document 01
+//! The rows of docs/DIFFERENCES.md that a job can meet, by their first column: what document 01
 //! refuses and the Rust accepts.
 
-use crate::{job::Job, port::Refusal};
+use crate::{
+    job::{Job, Kind},
+    port::Refusal,
+};
+use std::{ffi::OsStr, os::unix::ffi::OsStrExt, path::Path};
 
 pub const EI_DATA: &str = "EI_DATA 1 (little-endian)";
 pub const ENTRY_SIZE: &str = "e_shentsize other than 40";
@@ -19,6 +23,14 @@ pub const RELOCATION_SIZE: &str =
     "relocations longer than 8 bytes (REL) or 12 (RELA), or of another size in an empty table";
 pub const REL_LINK: &str = "a relocation table whose sh_link is not the symbol table";
 pub const FILE_LIMIT: &str = "C, A, prelude or block file over 1,048,576 bytes";
+pub const PATH: &str = "a path over 255 bytes, or with a byte over 127";
+pub const STEM: &str = "a path whose file has a stem of over 239 bytes";
+pub const STALE: &str = "a relocation table of C with entries for another section than its first .text, .data, .rodata or .bss";
+pub const DROPPED: &str = "a symbol or a relocation table of C that refers to a dropped section";
+pub const CLASH: &str = "A's relocations join a table of C of another type or for another section";
+pub const SECOND_SECTION: &str =
+    "a symbol of A that is taken over, in a second section of one of the five names";
+pub const STATICS: &str = "a static whose name is over 1,024 bytes, or more than 4,096 statics";
 
 const FILE_LENGTH: usize = 1_048_576;
 const SECTIONS: usize = 128;
@@ -27,7 +39,23 @@ const RESERVED: usize = 0xff00;
 
 const SYMTAB: u32 = 2;
 const RELA: u32 = 4;
+const NOBITS: u32 = 8;
 const REL: u32 = 9;
+const GPTAB: u32 = 0x7000_0003;
+const DEBUG: u32 = 0x7000_0005;
+
+const PATH_LENGTH: usize = 255;
+const STATIC_COUNT: usize = 4096;
+const STATIC_NAME: usize = 1024;
+
+/// A's sections, and C's that each goes to.
+const FIVE: [(&[u8], &[u8]); 5] = [
+    (b".text", b".text"),
+    (b".data", b".data"),
+    (b".rodata", b".rodata"),
+    (b".bss", b".bss"),
+    (b".late_rodata", b".rodata"),
+];
 
 /// The types that document 01 asks of the first section of a name.
 const TYPES: [(&[u8], u32); 6] = [
@@ -48,38 +76,103 @@ pub fn row(refusal: Refusal, job: &Job) -> Option<&'static str> {
         place,
     } = refusal;
     let c = Fields(&job.compiled);
+    let merge = job.kind() == Kind::Merge;
     let place = place as usize;
-    let count = c.sections();
-    let rows = match (number, object, place) {
-        (1, 0, 0) => vec![(FILE_LIMIT, over_limit(job))],
-        (2, 1, 5) => vec![(EI_DATA, c.0.get(5) == Some(&1))],
-        // The Rust accepts a larger one.
-        (2, 1, 46) => vec![(ENTRY_SIZE, c.half(46) > 40)],
-        (3, 1, 0) if count == 0 => vec![(NO_SECTIONS, true)],
-        (3, 1, 0) if count > SECTIONS => vec![(MANY_SECTIONS, true)],
-        (3, 1, i) if i < count => vec![
-            (NULL_SECTION, c.null_section(i)),
-            (ALIGNMENT, c.section(i, 32) > 65_536),
-            (SECTION_TYPE, c.other_type(i)),
-        ],
-        (5, 1, 0) => vec![
-            (SYMBOL_COUNT, c.other_symbol_count()),
-            (SYMBOL_ZERO, c.symbol_zero()),
-        ],
-        (5, 1, k) => vec![(SYMBOL_INDEX, c.wild_index(k))],
-        (6, 1, t) if t < count => vec![
-            (RELOCATION_SIZE, c.odd_relocations(t)),
-            (REL_LINK, c.other_link(t)),
-        ],
+    let rows = match (number, object) {
+        (1, 0) if place == 0 => vec![(FILE_LIMIT, over_limit(job)), (PATH, other_path(job))],
+        (2..=6, 1) => object_rows(&c, number, place),
+        (2..=6, 2) if merge => object_rows(&Fields(&job.second), number, place),
+        (10, 1) if merge && place < c.sections() => clash_rows(job, place),
+        (15, 2) if merge => vec![(SECOND_SECTION, Fields(&job.second).in_second(place))],
+        (17, 1) if job.merge.as_ref().is_some_and(|settings| settings.mode > 0) => {
+            vec![(STATICS, c.over_statics(place))]
+        }
         _ => vec![],
     };
     let met = rows.into_iter().find(|(_, met)| *met);
     met.map(|(row, _)| row)
 }
 
+/// Whether the Rust cannot have a job: the name of its temporary file would be too long.
+pub fn long_stem(job: &Job) -> bool {
+    const STEM_LENGTH: usize = 239;
+    let path = job.merge.as_ref().map(|settings| &settings.path);
+    let stem = path.and_then(|path| Path::new(OsStr::from_bytes(path)).file_stem());
+    stem.is_some_and(|stem| stem.len() > STEM_LENGTH)
+}
+
+type Rows = Vec<(&'static str, bool)>;
+
+/// The rows about one object, for refusals 2 to 6.
+fn object_rows(object: &Fields, number: u32, place: usize) -> Rows {
+    let count = object.sections();
+    match (number, place) {
+        (2, 5) => vec![(EI_DATA, object.0.get(5) == Some(&1))],
+        // The Rust accepts a larger one.
+        (2, 46) => vec![(ENTRY_SIZE, object.half(46) > 40)],
+        (3, 0) if count == 0 => vec![(NO_SECTIONS, true)],
+        (3, 0) if count > SECTIONS => vec![(MANY_SECTIONS, true)],
+        (3, i) if i < count => vec![
+            (NULL_SECTION, object.null_section(i)),
+            (ALIGNMENT, object.section(i, 32) > 65_536),
+            (SECTION_TYPE, object.other_type(i)),
+        ],
+        (5, 0) => vec![
+            (SYMBOL_COUNT, object.other_symbol_count()),
+            (SYMBOL_ZERO, object.symbol_zero()),
+        ],
+        (5, k) => vec![(SYMBOL_INDEX, object.wild_index(k))],
+        (6, t) if t < count => vec![
+            (RELOCATION_SIZE, object.odd_relocations(t)),
+            (REL_LINK, object.other_link(t)),
+        ],
+        _ => vec![],
+    }
+}
+
+/// The rows of refusal 10, about a section of C.
+fn clash_rows(job: &Job, place: usize) -> Rows {
+    let (c, a) = (Fields(&job.compiled), Fields(&job.second));
+    let stay = c.stay(job.merge.as_ref().map_or(0, |settings| settings.flag));
+    let target = c.section(place, 28) as usize;
+    let four = FIVE[..4]
+        .iter()
+        .any(|(name, _)| c.first(name) == Some(target));
+    let stale = c.relocations(place) && c.section(place, 20) > 0 && !four;
+    let symbols = c.symbols().unwrap_or(0);
+    let missed = place >= stay && (0..symbols).any(|k| c.symbol_index(k) == place);
+    let dropped = missed || c.relocations(place) && target >= stay;
+    let joins = (0..a.sections()).any(|table| {
+        let of = FIVE.iter().find(|(name, _)| {
+            a.relocations(table) && a.first(name) == Some(a.section(table, 28) as usize)
+        });
+        let Some((name, goal)) = of else {
+            return false;
+        };
+        let held = a.first(name).is_some_and(|i| !a.held(i).is_empty());
+        let (kind, prefix) = (
+            a.section(table, 4),
+            if a.section(table, 4) == REL {
+                &b".rel"[..]
+            } else {
+                b".rela"
+            },
+        );
+        held && a.section(table, 20) > 0
+            && c.first(&[prefix, goal].concat()) == Some(place)
+            && (c.section(place, 4) != kind || Some(target) != c.first(goal))
+    });
+    vec![(STALE, stale), (DROPPED, dropped), (CLASH, joins)]
+}
+
 fn over_limit(job: &Job) -> bool {
-    let files = [&job.compiled, &job.prelude, &job.blocks];
+    let files = [&job.compiled, &job.second, &job.blocks];
     files.iter().any(|file| file.len() > FILE_LENGTH)
+}
+
+fn other_path(job: &Job) -> bool {
+    let path = job.merge.as_ref().map(|settings| &settings.path);
+    path.is_some_and(|path| path.len() > PATH_LENGTH || !path.is_ascii())
 }
 
 /// Fields of an object; 0, or no bytes, where they are not there.
@@ -111,6 +204,26 @@ impl<'a> Fields<'a> {
     fn contents(&self, index: usize) -> &'a [u8] {
         let [start, size] = [16, 20].map(|field| self.section(index, field) as usize);
         self.0.get(start..start + size).unwrap_or_default()
+    }
+
+    /// The bytes of a section, which one of type NOBITS has not.
+    fn held(&self, index: usize) -> &'a [u8] {
+        match self.section(index, 4) {
+            NOBITS => &[],
+            _ => self.contents(index),
+        }
+    }
+
+    /// The first section of a name.
+    fn first(&self, name: &[u8]) -> Option<usize> {
+        (0..self.sections()).find(|&i| self.name(i) == name)
+    }
+
+    /// How many sections the drop flag leaves.
+    fn stay(&self, flag: u32) -> usize {
+        let debug = |i: usize| flag == 1 && [GPTAB, DEBUG].contains(&self.section(i, 4));
+        let count = self.sections();
+        (0..count).rev().find(|&i| !debug(i)).map_or(0, |i| i + 1)
     }
 
     fn name(&self, index: usize) -> &'a [u8] {
@@ -162,8 +275,53 @@ impl<'a> Fields<'a> {
         let (Some(table), Some(count)) = (self.symtab(), self.symbols()) else {
             return false;
         };
-        let entry = self.section(table, 16) as usize + 16 * symbol.min(count);
-        symbol < count && (self.sections()..RESERVED).contains(&self.half(entry + 14))
+        let at = self.section(table, 16) as usize + 16 * symbol.min(count) + 14;
+        symbol < count && (self.sections()..RESERVED).contains(&self.half(at))
+    }
+
+    /// The section index of a symbol.
+    fn symbol_index(&self, symbol: usize) -> usize {
+        let table = self.symtab().map_or(0, |i| self.section(i, 16) as usize);
+        self.half(table + 16 * symbol + 14)
+    }
+
+    /// A symbol in a section of one of the five names that is not the first of its name.
+    fn in_second(&self, symbol: usize) -> bool {
+        if symbol >= self.symbols().unwrap_or(0) {
+            return false;
+        }
+        let index = self.symbol_index(symbol);
+        let name = self.name(index);
+        index < self.sections()
+            && FIVE.iter().any(|(five, _)| *five == name)
+            && self.first(name) != Some(index)
+    }
+
+    /// Whether the walk over the statics passes a limit at this entry.
+    fn over_statics(&self, entry: usize) -> bool {
+        let Some(debug) = self.first(b".mdebug") else {
+            return false;
+        };
+        let header = self.section(debug, 16) as usize;
+        let [files, files_at, entries_at, names_at] =
+            [72, 76, 36, 60].map(|field| self.word(header + field) as usize);
+        let (mut passed, mut statics) = (0, 0);
+        for file in (0..files).map(|i| files_at + 72 * i) {
+            let [names, first, count] = [8, 16, 20].map(|field| self.word(file + field) as usize);
+            for at in (0..count).map(|j| entries_at + 12 * (first + j)) {
+                let kind = self.word(at + 8) >> 26;
+                let is_static = kind == 2 || kind == 14;
+                if passed == entry {
+                    let name = self.0.get(names_at + names + self.word(at) as usize..);
+                    let name = name.unwrap_or_default().split(|&b| b == 0).next();
+                    let long = name.is_some_and(|name| name.len() > STATIC_NAME);
+                    return is_static && (long || statics == STATIC_COUNT);
+                }
+                passed += 1;
+                statics += usize::from(is_static);
+            }
+        }
+        false
     }
 
     fn relocations(&self, table: usize) -> bool {
@@ -186,308 +344,4 @@ impl<'a> Fields<'a> {
 }
 
 #[cfg(test)]
-mod tests {
-    use super::*;
-    use crate::{
-        job::job,
-        port::{Port, Verdict},
-        random::Random,
-    };
-
-    const HEADERS: usize = 160;
-    const TEXT: usize = 1;
-    const OTHER: usize = 2;
-    const RELOCATIONS: usize = 3;
-    const SYMBOL_TABLE: usize = 4;
-    const NAMES: usize = 5;
-    /// Where the two symbols stand, and the string table.
-    const SYMBOLS_AT: usize = 128;
-    const STRINGS_AT: usize = 52;
-
-    /// An object on no row: two sections .text, relocations for the first, two symbols, and one
-    /// string table.
-    fn sound() -> Job {
-        let names = b"\0.text\0.rel\0.sym\0.str\0";
-        let mut file = b"\x7fELF\x01\x02\x01".to_vec();
-        file.resize(52, 0);
-        put(&mut file, 16, &[0, 1, 0, 8]);
-        put(&mut file, 32, &(HEADERS as u32).to_be_bytes());
-        put(&mut file, 46, &[0, 40, 0, 6, 0, NAMES as u8]);
-        file.extend(names);
-        file.resize(HEADERS, 0);
-        // sh_name, sh_type, sh_offset, sh_size, sh_link, sh_info, sh_entsize
-        for [name, kind, offset, size, link, info, entry] in [
-            [0; 7],
-            [1, 1, 120, 8, 0, 0, 0],
-            [1, 1, 120, 8, 0, 0, 0],
-            [7, REL, 120, 8, SYMBOL_TABLE as u32, TEXT as u32, 8],
-            [12, SYMTAB, SYMBOLS_AT as u32, 32, NAMES as u32, 1, 16],
-            [17, 3, STRINGS_AT as u32, names.len() as u32, 0, 0, 0],
-        ] {
-            for word in [name, kind, 0, 0, offset, size, link, info, 1, entry] {
-                file.extend(word.to_be_bytes());
-            }
-        }
-        Job {
-            compiled: file,
-            ..Job::default()
-        }
-    }
-
-    fn put(file: &mut [u8], at: usize, bytes: &[u8]) {
-        file[at..at + bytes.len()].copy_from_slice(bytes);
-    }
-
-    fn set(job: &mut Job, section: usize, field: usize, word: u32) {
-        let at = HEADERS + 40 * section + field;
-        put(&mut job.compiled, at, &word.to_be_bytes());
-    }
-
-    fn symbols(job: &mut Job, count: usize) {
-        job.compiled.resize(SYMBOLS_AT + 16 * count, 0);
-        set(job, SYMBOL_TABLE, 20, 16 * count as u32);
-    }
-
-    fn index(job: &mut Job, symbol: usize, bytes: [u8; 2]) {
-        put(&mut job.compiled, SYMBOLS_AT + 16 * symbol + 14, &bytes);
-    }
-
-    fn refused(number: u32, place: u64) -> Refusal {
-        let object = u32::from(number != 1);
-        Refusal {
-            number,
-            object,
-            place,
-        }
-    }
-
-    type Change = fn(&mut Job);
-
-    /// A row, the number and the place of a refusal, a change of the sound job that meets the row,
-    /// and changes after which it has no more than the number and the place.
-    type Case = (&'static str, (u32, u64), Change, &'static [Change]);
-
-    const CASES: &[Case] = &[
-        (
-            FILE_LIMIT,
-            (1, 0),
-            |job| job.prelude.resize(FILE_LENGTH + 1, 0),
-            &[|job| job.blocks.resize(FILE_LENGTH, 0)],
-        ),
-        (
-            EI_DATA,
-            (2, 5),
-            |job| job.compiled[5] = 1,
-            &[|job| job.compiled[5] = 3],
-        ),
-        (
-            ENTRY_SIZE,
-            (2, 46),
-            |job| job.compiled[47] = 41,
-            &[|job| job.compiled[47] = 39],
-        ),
-        (
-            NO_SECTIONS,
-            (3, 0),
-            |job| job.compiled[49] = 0,
-            &[|job| job.compiled[49] = 1],
-        ),
-        (
-            MANY_SECTIONS,
-            (3, 0),
-            |job| job.compiled[49] = 129,
-            &[|job| job.compiled[49] = 128],
-        ),
-        (
-            NULL_SECTION,
-            (3, 0),
-            |job| set(job, 0, 4, 1),
-            &[|job| set(job, 1, 4, 0)],
-        ),
-        (NULL_SECTION, (3, 0), |job| set(job, 0, 20, 4), &[]),
-        (
-            NULL_SECTION,
-            (3, 2),
-            |job| set(job, OTHER, 4, 0),
-            &[|job| set(job, OTHER, 4, 7)],
-        ),
-        (
-            ALIGNMENT,
-            (3, 3),
-            |job| set(job, RELOCATIONS, 32, 65_537),
-            &[
-                |job| set(job, RELOCATIONS, 32, 65_536),
-                |job| set(job, SYMBOL_TABLE, 32, 65_537),
-            ],
-        ),
-        (ALIGNMENT, (3, 0), |job| set(job, 0, 32, 65_537), &[]),
-        (
-            SECTION_TYPE,
-            (3, 1),
-            |job| set(job, TEXT, 4, 8),
-            // Another name.
-            &[|job| {
-                set(job, TEXT, 4, 8);
-                set(job, TEXT, 0, 2);
-            }],
-        ),
-        // A later section of the name may have any type.
-        (
-            SECTION_TYPE,
-            (3, 2),
-            |job| {
-                set(job, OTHER, 4, 8);
-                set(job, TEXT, 0, 2);
-            },
-            &[|job| set(job, OTHER, 4, 8)],
-        ),
-        (
-            SYMBOL_COUNT,
-            (5, 0),
-            |job| set(job, SYMBOL_TABLE, 20, 0),
-            &[|job| symbols(job, 4096), |job| set(job, SYMBOL_TABLE, 4, 1)],
-        ),
-        (SYMBOL_COUNT, (5, 0), |job| symbols(job, 4097), &[]),
-        (
-            SYMBOL_ZERO,
-            (5, 0),
-            |job| job.compiled[SYMBOLS_AT + 13] = 1,
-            &[|job| job.compiled[SYMBOLS_AT + 16 + 13] = 1],
-        ),
-        (
-            SYMBOL_ZERO,
-            (5, 0),
-            |job| job.compiled[STRINGS_AT] = b'x',
-            &[|job| job.compiled[STRINGS_AT + 1] = b'x'],
-        ),
-        (
-            SYMBOL_INDEX,
-            (5, 1),
-            |job| index(job, 1, [0, 6]),
-            &[
-                |job| index(job, 1, [0, 5]),
-                |job| index(job, 1, [0xff, 0]),
-                |job| index(job, 0, [0, 6]),
-            ],
-        ),
-        (SYMBOL_INDEX, (5, 1), |job| index(job, 1, [0xfe, 0xff]), &[]),
-        (
-            RELOCATION_SIZE,
-            (6, 3),
-            |job| {
-                set(job, RELOCATIONS, 20, 12);
-                set(job, RELOCATIONS, 36, 12);
-            },
-            &[
-                |job| set(job, RELOCATIONS, 36, 4),
-                |job| {
-                    set(job, RELOCATIONS, 20, 12);
-                    set(job, RELOCATIONS, 36, 12);
-                    set(job, RELOCATIONS, 4, RELA);
-                },
-            ],
-        ),
-        (
-            RELOCATION_SIZE,
-            (6, 3),
-            |job| {
-                set(job, RELOCATIONS, 20, 0);
-                set(job, RELOCATIONS, 36, 4);
-            },
-            &[|job| {
-                set(job, RELOCATIONS, 20, 0);
-                set(job, RELOCATIONS, 36, 0);
-            }],
-        ),
-        (
-            REL_LINK,
-            (6, 3),
-            |job| set(job, RELOCATIONS, 24, 0),
-            &[|job| {
-                set(job, RELOCATIONS, 24, 0);
-                set(job, RELOCATIONS, 4, 1);
-            }],
-        ),
-    ];
-
-    const ROWS: [&str; 13] = [
-        EI_DATA,
-        ENTRY_SIZE,
-        NO_SECTIONS,
-        MANY_SECTIONS,
-        NULL_SECTION,
-        ALIGNMENT,
-        SECTION_TYPE,
-        SYMBOL_COUNT,
-        SYMBOL_ZERO,
-        SYMBOL_INDEX,
-        RELOCATION_SIZE,
-        REL_LINK,
-        FILE_LIMIT,
-    ];
-
-    fn changed(change: Change) -> Job {
-        let mut job = sound();
-        change(&mut job);
-        job
-    }
-
-    /// What the library answers to a job.
-    fn answer(job: &Job) -> Result<Verdict, String> {
-        Port::new(1).answer(job, &mut Random::new(1, 1))
-    }
-
-    #[test]
-    fn a_row_is_met_by_its_own_bytes_alone() {
-        assert!(matches!(answer(&sound()), Ok(Verdict::Draft(_))));
-        for &(words, (number, place), meets, lacks) in CASES {
-            let (refusal, job) = (refused(number, place), changed(meets));
-            assert_eq!(answer(&job), Ok(Verdict::Refused(refusal)), "{words}");
-            assert_eq!(row(refusal, &job), Some(words));
-            assert_eq!(row(refusal, &sound()), None, "{words}");
-            for (i, &lack) in lacks.iter().enumerate() {
-                assert_eq!(row(refusal, &changed(lack)), None, "{words}: {i}");
-            }
-            // The same bytes, under another number, object or place.
-            for other in [
-                refused(4, place),
-                refused(number, u64::MAX),
-                Refusal {
-                    object: 2,
-                    ..refusal
-                },
-            ] {
-                assert_eq!(row(other, &job), None, "{words}: {other:?}");
-            }
-        }
-    }
-
-    /// So that a library which refuses sound jobs is found, whatever it says.
-    #[test]
-    fn a_job_that_is_accepted_is_on_no_row() {
-        let mut port = Port::new(1);
-        let mut accepted: Vec<Job> = (0..1000).map(|index| job(1, index)).collect();
-        accepted.retain(|job| {
-            let answer = port.answer(job, &mut Random::new(1, 1));
-            matches!(answer, Ok(Verdict::Draft(_)))
-        });
-        assert!(accepted.len() > 300, "{} of 1000", accepted.len());
-        for job in &accepted {
-            for number in [1, 2, 3, 5, 6] {
-                for place in 0..=128 {
-                    let refusal = refused(number, place);
-                    assert_eq!(row(refusal, job), None, "{refusal:?}");
-                }
-            }
-        }
-    }
-
-    #[test]
-    fn every_row_has_a_case_and_stands_in_the_document() {
-        let document = include_str!("../../docs/DIFFERENCES.md");
-        for row in ROWS {
-            assert!(CASES.iter().any(|case| case.0 == row), "{row}");
-            assert!(document.contains(&format!("\n| {row} | ")), "{row}");
-        }
-    }
-}
+mod tests;

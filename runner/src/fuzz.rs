@@ -1,4 +1,4 @@
-//! Coverage-guided fuzzing of the proved draft: jobs that reach a block of code for the first time
+//! Coverage-guided fuzzing of a proved call: jobs that reach a block of code for the first time
 //! are kept and changed further. After every call all that document 01 says of the buffers is
 //! checked; inputs and buffers lie against pages that nobody may touch.
 
@@ -6,12 +6,12 @@ use crate::{
     compare::{Others, Tally, held_against},
     damage::{damage_lines, damage_object},
     fence::Fence,
-    job::{Job, job},
-    port::{Refusal, Verdict},
+    job::{Job, Kind, job},
+    port::{Refusal, Verdict, invoke, least, zeros},
     random::Random,
     trace,
 };
-use daphulle::call::{BLOCK_TABLE, Outcome, PLACE_TABLE, draft_into};
+use daphulle::call::Outcome;
 use std::{
     ffi::{CString, c_char},
     fs, io,
@@ -29,26 +29,31 @@ unsafe extern "C" {
 const MOST: usize = 2 << 20;
 const SECONDS: u32 = 20;
 
-/// Pages for three inputs and three buffers, and noise to lend.
+/// Pages for the inputs and the buffers of a call, and noise to lend.
 struct Target {
-    inputs: [Fence; 3],
-    buffers: [Fence; 3],
+    kind: Kind,
+    inputs: Vec<Fence>,
+    buffers: Vec<Fence>,
     noise: Vec<u8>,
-    paths: [CString; 3],
+    paths: Vec<CString>,
 }
 
 impl Target {
-    fn new(seed: u64, folder: &Path) -> io::Result<Target> {
+    fn new(kind: Kind, seed: u64, folder: &Path) -> io::Result<Target> {
         fs::create_dir_all(folder)?;
         let path = |name: &str| {
             let path = folder.join(name);
             CString::new(path.as_os_str().as_encoded_bytes()).map_err(io::Error::other)
         };
+        let first = job(kind, seed, 0);
+        let names = first.files().into_iter().map(|(name, _)| path(name));
+        let paths = names.collect::<io::Result<Vec<CString>>>()?;
         Ok(Target {
-            inputs: [MOST, MOST, MOST].map(Fence::new),
-            buffers: [MOST, MOST, MOST].map(Fence::new),
+            kind,
+            inputs: paths.iter().map(|_| Fence::new(MOST)).collect(),
+            buffers: (0..=least(kind).len()).map(|_| Fence::new(MOST)).collect(),
             noise: Random::new(seed, 0).bytes(1 << 20),
-            paths: [path("c.o")?, path("prelude")?, path("blocks")?],
+            paths,
         })
     }
 
@@ -58,46 +63,46 @@ impl Target {
             0 => random.below(200),
             _ => 20_000 + random.below(90_000),
         };
-        let less = |random: &mut Random, n: usize| match random.below(12) {
-            0 => n - 1,
-            1 => random.below(n),
-            2 => n + random.below(5000),
-            _ => n,
-        };
-        let lengths = [room, less(random, BLOCK_TABLE), less(random, PLACE_TABLE)];
-        let at_end = |random: &mut Random| !random.once_in(5);
-        let [c, p, b] = &mut self.inputs;
-        let files = [
-            c.hold(&job.compiled, at_end(random)),
-            p.hold(&job.prelude, at_end(random)),
-            b.hold(&job.blocks, at_end(random)),
-        ];
-        let [o, t, s] = &mut self.buffers;
-        let [out, table, places] =
-            [(o, lengths[0]), (t, lengths[1]), (s, lengths[2])].map(|(fence, n)| {
-                let part = fence.lend(n, at_end(random));
-                let start = random.below(self.noise.len() - n.min(self.noise.len()) + 1);
-                part.copy_from_slice(&self.noise[start..start + n]);
-                part
+        let mut lengths = vec![room];
+        for &n in least(self.kind) {
+            lengths.push(match random.below(24) {
+                0 => n - 1,
+                1 => random.below(n),
+                2 | 3 => n + random.below(5000),
+                _ => n,
             });
+        }
+        let at_end = |random: &mut Random| !random.once_in(5);
+        let mut files = vec![];
+        for (fence, (_, bytes)) in self.inputs.iter_mut().zip(job.files()) {
+            files.push(fence.hold(bytes, at_end(random)));
+        }
+        let mut buffers = vec![];
+        for (fence, &n) in self.buffers.iter_mut().zip(&lengths) {
+            let part = fence.lend(n, at_end(random));
+            let start = random.below(self.noise.len() - n.min(self.noise.len()) + 1);
+            part.copy_from_slice(&self.noise[start..start + n]);
+            buffers.push(part);
+        }
         for (i, (file, path)) in files.iter().zip(&self.paths).enumerate() {
             // SAFETY: the parts and the paths outlive the call below, after which nobody looks.
             unsafe { keep_input(i as i32, file.as_ptr(), file.len(), path.as_ptr()) };
         }
         // SAFETY: it sets the system's alarm.
         unsafe { calls_may_last(SECONDS) };
-        let outcome = draft_into(files[0], files[1], files[2], out, table, places);
+        let outcome = invoke(job, &files, &mut buffers);
         // SAFETY: as above; 0 takes the alarm back.
         unsafe { calls_may_last(0) };
-        checked(outcome, lengths, [out, table, places])
+        checked(self.kind, outcome, &lengths, &buffers)
     }
 }
 
 /// Zeros where document 01 asks for them, and an answer of its form.
 fn checked(
+    kind: Kind,
     outcome: Outcome,
-    lengths: [usize; 3],
-    buffers: [&mut [u8]; 3],
+    lengths: &[usize],
+    buffers: &[&mut [u8]],
 ) -> Result<Verdict, String> {
     let Outcome {
         length,
@@ -105,27 +110,39 @@ fn checked(
         object,
         place,
     } = outcome;
-    let short = lengths[1] < BLOCK_TABLE || lengths[2] < PLACE_TABLE;
+    let short = lengths[1..]
+        .iter()
+        .zip(least(kind))
+        .any(|(n, least)| n < least);
     let written = length as usize;
-    let zero = |part: &[u8]| part.iter().all(|&b| b == 0);
+    let merge = kind == Kind::Merge;
     let formed = match number {
-        0 => (object, place) == (0, 0) && written <= lengths[0] && !short,
-        1 => (object, place, length) == (0, 0, 0),
-        2..=6 => (object, length) == (1, 0) && !short,
-        7 => object == 0 && length == 0 && place > 0,
-        8 | 9 => (object, length) == (1, 0) && place < 1024,
-        21 => (object, length) == (0, 0) && place > lengths[0] as u64,
+        0 => (object, place) == (0, 0) && written <= lengths[0],
+        1 => (object, place) == (0, 0),
+        2..=6 => object == 1 || merge && object == 2,
+        7 => object == 0 && place > 0,
+        8 | 9 => object == 1 && place < 1024,
+        10 => merge && object == 1 && place < 128,
+        11 => merge && object < 3 && (1..=6).contains(&place),
+        12 => merge && object == 2 && place < 1024,
+        13 => merge && (object, place) == (2, 0),
+        14 => merge && object == 1 && place < 1024,
+        15 | 16 => merge && object == 2 && place < 4096,
+        17 => merge && object == 1,
+        18 | 19 => merge && object == 0 && place < 12_288,
+        20 => merge && (object == 1 || object == 2),
+        21 => object == 0 && place > lengths[0] as u64,
         _ => false,
     };
-    let [out, table, places] = buffers;
-    if !formed || short && number != 1 {
+    if !formed || short && number != 1 || number != 0 && length != 0 {
         return Err(format!("{outcome:?} with lengths {lengths:?}"));
     }
-    if written > out.len() || !zero(&out[written..]) || !zero(table) || !zero(places) {
+    let out = &buffers[0];
+    if !zeros(&out[written..]) || !buffers[1..].iter().all(|buffer| zeros(buffer)) {
         return Err(format!("not zeroed: {outcome:?} with lengths {lengths:?}"));
     }
     Ok(match number {
-        0 => Verdict::Draft(out[..written].to_vec()),
+        0 => Verdict::Done(out[..written].to_vec()),
         21 => Verdict::Long(place),
         _ => Verdict::Refused(Refusal {
             number,
@@ -140,20 +157,28 @@ fn changed(random: &mut Random, kept: &[Job]) -> Job {
     let mut job = random.pick(kept).clone();
     let other = random.pick(kept);
     for _ in 0..random.between(1, 5) {
-        match random.below(8) {
-            0 | 1 => damage_object(random, &mut job.compiled, &other.compiled),
-            2 | 3 => damage_lines(random, &mut job.blocks),
-            4 => change_bytes(random, &mut job.compiled),
-            5 => change_bytes(random, &mut job.blocks),
-            6 => change_bytes(random, &mut job.prelude),
+        match (random.below(8), &mut job.merge) {
+            (0, _) => damage_object(random, &mut job.compiled, &other.compiled),
+            (1, None) => damage_object(random, &mut job.compiled, &other.compiled),
+            (1, Some(_)) => damage_object(random, &mut job.second, &other.second),
+            (2, _) => damage_lines(random, &mut job.blocks),
+            (3, None) => damage_lines(random, &mut job.blocks),
+            (3, Some(settings)) => match random.below(3) {
+                0 => change_bytes(random, &mut settings.path),
+                1 => settings.flag ^= 1,
+                _ => settings.mode = random.below(4) as u32,
+            },
+            (4, _) => change_bytes(random, &mut job.compiled),
+            (5, _) => change_bytes(random, &mut job.blocks),
+            (6, _) => change_bytes(random, &mut job.second),
             _ => match random.below(3) {
                 0 => job.compiled.clone_from(&other.compiled),
-                1 => job.prelude.clone_from(&other.prelude),
+                1 => job.second.clone_from(&other.second),
                 _ => job.blocks.clone_from(&other.blocks),
             },
         }
     }
-    for file in [&mut job.compiled, &mut job.prelude, &mut job.blocks] {
+    for file in [&mut job.compiled, &mut job.second, &mut job.blocks] {
         file.truncate(MOST);
     }
     job
@@ -183,27 +208,30 @@ fn change_bytes(random: &mut Random, file: &mut Vec<u8>) {
 }
 
 /// Fuzzes for some time; then the kept jobs are held against the Rust and the model.
-pub fn fuzz(seed: u64, time: Duration, folder: &Path, others: &mut Others) -> io::Result<bool> {
-    let blocks = trace::start()?;
+pub fn fuzz(
+    kind: Kind,
+    seed: u64,
+    time: Duration,
+    folder: &Path,
+    others: &mut Others,
+) -> io::Result<bool> {
+    let trace = trace::start()?;
+    let blocks = trace.blocks();
     // SAFETY: it sets handlers for signals that end this process otherwise.
     unsafe { watch_calls() };
-    let mut target = Target::new(seed, folder)?;
+    let mut target = Target::new(kind, seed, folder)?;
     let random = &mut Random::new(seed, 1);
     let (mut kept, mut calls, mut hits) = (vec![], 0u64, 0);
     let (start, mut last, mut report) = (Instant::now(), 0.0, 1);
     while start.elapsed() < time {
         let new = match kept.is_empty() || random.once_in(20) {
-            true => job(seed, calls),
+            true => job(kind, seed, calls),
             false => changed(random, &kept),
         };
         if let Err(words) = target.call(random, &new) {
             println!("WRONG after {calls} calls: {words}");
-            for (path, bytes) in target
-                .paths
-                .iter()
-                .zip([&new.compiled, &new.prelude, &new.blocks])
-            {
-                fs::write(&*path.to_string_lossy(), bytes)?;
+            for (name, bytes) in new.files() {
+                fs::write(folder.join(name), bytes)?;
             }
             return Ok(false);
         }
@@ -221,13 +249,16 @@ pub fn fuzz(seed: u64, time: Duration, folder: &Path, others: &mut Others) -> io
         }
     }
     println!(
-        "seed {seed}: {calls} calls in {} seconds, none died, none passed {SECONDS} seconds",
+        "{kind}, seed {seed}: {calls} calls in {} seconds, none died, none passed {SECONDS} seconds",
         time.as_secs()
     );
     println!(
         "{hits} of {blocks} blocks of the archive's code reached, the last after {last:.0} seconds, by {} jobs",
         kept.len()
     );
+    for (name, missed, all) in trace.missed() {
+        println!("{missed:>6} of {all} blocks of {name} not reached");
+    }
     again(&mut target, random, kept, others)
 }
 
@@ -242,9 +273,7 @@ fn again(
     for (i, job) in (0..).zip(kept) {
         // Until the buffers are long enough for an answer that does not speak of them.
         let verdict = (0..1000).find_map(|_| match target.call(random, &job) {
-            Ok(Verdict::Refused(Refusal { number: 1, .. })) if job.compiled.len() <= 1 << 20 => {
-                None
-            }
+            Ok(Verdict::Refused(Refusal { number: 1, .. })) => None,
             Ok(Verdict::Long(n)) if n < 110_000 => None,
             other => Some(other),
         });

@@ -3,10 +3,13 @@
 mod blocks;
 mod compare;
 mod damage;
+mod debug;
 mod differences;
 mod fence;
 mod fuzz;
 mod job;
+mod large;
+mod merges;
 mod object;
 mod port;
 mod random;
@@ -14,7 +17,10 @@ mod served;
 mod speed;
 mod trace;
 
-use compare::{BATCH, Others, Run, compare};
+use compare::{BATCH, Others, Run, SHARE, Tally, compare, held_against};
+use job::{Job, Kind, Settings};
+use port::Port;
+use random::Random;
 use served::{Model, Rust};
 use std::{
     env, fs,
@@ -24,12 +30,14 @@ use std::{
     time::{Duration, Instant},
 };
 
-const USAGE: &str = "usage: runner compare SEED JOBS [SECONDS]
-       runner record SEED JOBS FILE
+const USAGE: &str = "usage: runner compare KIND SEED JOBS [SECONDS]
+       runner record KIND SEED JOBS FILE
        runner replay FILE [SECONDS]
-       runner fuzz SEED SECONDS FOLDER
-       runner speed ROUNDS
-       runner job SEED INDEX FOLDER";
+       runner fuzz KIND SEED SECONDS FOLDER
+       runner speed KIND ROUNDS
+       runner job KIND SEED INDEX FOLDER
+       runner stored FOLDER
+KIND is draft or merge.";
 
 fn main() -> ExitCode {
     let arguments: Vec<String> = env::args().skip(1).collect();
@@ -42,41 +50,52 @@ fn main() -> ExitCode {
 
 fn command(words: &[&str]) -> io::Result<ExitCode> {
     match *words {
-        ["compare", seed, jobs] => run(number(seed)?, number(jobs)?, None, None),
-        ["compare", seed, jobs, seconds] => {
-            let time = Duration::from_secs(number(seconds)?);
-            run(number(seed)?, number(jobs)?, Some(time), None)
+        ["compare", kind, seed, jobs] => {
+            run(which(kind)?, number(seed)?, number(jobs)?, None, None)
         }
-        ["record", seed, jobs, file] => run(number(seed)?, number(jobs)?, None, Some(file)),
+        ["compare", kind, seed, jobs, seconds] => {
+            let time = Duration::from_secs(number(seconds)?);
+            run(which(kind)?, number(seed)?, number(jobs)?, Some(time), None)
+        }
+        ["record", kind, seed, jobs, file] => {
+            run(which(kind)?, number(seed)?, number(jobs)?, None, Some(file))
+        }
         ["replay", file] => replay(file, None),
         ["replay", file, seconds] => replay(file, Some(Duration::from_secs(number(seconds)?))),
-        ["fuzz", seed, seconds, folder] => {
-            let time = Duration::from_secs(number(seconds)?);
-            let sound = fuzz::fuzz(number(seed)?, time, Path::new(folder), &mut others()?)?;
+        ["fuzz", kind, seed, seconds, folder] => {
+            let (kind, time) = (which(kind)?, Duration::from_secs(number(seconds)?));
+            let sound = fuzz::fuzz(kind, number(seed)?, time, Path::new(folder), &mut others()?)?;
             Ok(if sound {
                 ExitCode::SUCCESS
             } else {
                 ExitCode::FAILURE
             })
         }
-        ["speed", rounds] => match oracle::MISSING {
+        ["speed", kind, rounds] => match oracle::MISSING {
             Some(reason) => Err(io::Error::other(reason)),
-            None => speed::speed(number(rounds)? as usize).map(|()| ExitCode::SUCCESS),
+            None => {
+                speed::speed(which(kind)?, number(rounds)? as usize).map(|()| ExitCode::SUCCESS)
+            }
         },
-        ["job", seed, index, folder] => {
-            let job = job::job(number(seed)?, number(index)?);
+        ["job", kind, seed, index, folder] => {
+            let job = job::job(which(kind)?, number(seed)?, number(index)?);
             fs::create_dir_all(folder)?;
-            for (name, bytes) in [
-                ("c.o", job.compiled),
-                ("prelude", job.prelude),
-                ("blocks", job.blocks),
-            ] {
+            for (name, bytes) in job.files() {
                 fs::write(Path::new(folder).join(name), bytes)?;
+            }
+            if let Some(settings) = &job.merge {
+                println!("flag {}, mode {}", settings.flag, settings.mode);
             }
             Ok(ExitCode::SUCCESS)
         }
+        ["stored", folder] => stored(Path::new(folder)),
         _ => Err(io::Error::new(ErrorKind::InvalidInput, USAGE)),
     }
+}
+
+fn which(word: &str) -> io::Result<Kind> {
+    word.parse()
+        .map_err(|error| io::Error::new(ErrorKind::InvalidInput, format!("{error}\n{USAGE}")))
 }
 
 fn number(word: &str) -> io::Result<u64> {
@@ -114,12 +133,19 @@ fn others() -> io::Result<Others> {
     Ok(Others { rust, model })
 }
 
-fn run(seed: u64, jobs: u64, time: Option<Duration>, record: Option<&str>) -> io::Result<ExitCode> {
+fn run(
+    kind: Kind,
+    seed: u64,
+    jobs: u64,
+    time: Option<Duration>,
+    record: Option<&str>,
+) -> io::Result<ExitCode> {
     let mut others = others()?;
     let start = Instant::now();
-    println!("seed {seed}, {jobs} jobs");
+    println!("{kind}, seed {seed}, {jobs} jobs");
     let (tally, found) = compare(
         &Run {
+            kind,
             seed,
             first: 0,
             jobs,
@@ -146,10 +172,61 @@ fn run(seed: u64, jobs: u64, time: Option<Duration>, record: Option<&str>) -> io
             ));
         }
         let lines = (0u64..).zip(&tally.digests);
-        let lines = lines.map(|(i, digest)| format!("{seed} {} {digest:016x}\n", i * BATCH));
+        let lines = lines.map(|(i, digest)| format!("{kind} {seed} {} {digest:016x}\n", i * BATCH));
         fs::write(file, lines.collect::<String>())?;
     }
     Ok(ExitCode::SUCCESS)
+}
+
+/// Holds stored merges against the others, a folder each, in every mode and with both flags. A
+/// folder has c.o, a.o, blocks and settings, whose first line is the path.
+fn stored(folder: &Path) -> io::Result<ExitCode> {
+    let mut others = others()?;
+    let mut folders = fs::read_dir(folder)?
+        .map(|entry| entry.map(|entry| entry.path()))
+        .collect::<io::Result<Vec<PathBuf>>>()?;
+    folders.sort();
+    folders.retain(|folder| folder.join("a.o").exists());
+    let (mut batch, mut found, mut tally) = (vec![], vec![], Tally::default());
+    let mut port = Port::new(1);
+    for folder in &folders {
+        let file = |name: &str| fs::read(folder.join(name));
+        let settings = file("settings")?;
+        let path = settings.split(|&b| b == b'\n').next().unwrap_or_default();
+        for (flag, mode) in (0..8).map(|n| (n / 4, n % 4)) {
+            let path = path.to_vec();
+            let job = Job {
+                compiled: file("c.o")?,
+                second: file("a.o")?,
+                blocks: file("blocks")?,
+                merge: Some(Settings { path, flag, mode }),
+            };
+            // Every one is a job of the share that is asked of the model.
+            let answer = port.answer(&job, &mut Random::new(1, tally.jobs));
+            let verdict = answer
+                .map_err(|words| io::Error::other(format!("{}: {words}", folder.display())))?;
+            batch.push((SHARE * tally.jobs, job, verdict));
+            tally.jobs += 1;
+        }
+    }
+    held_against(&mut others, &batch, &mut tally, &mut found)?;
+    print!("{tally}");
+    for difference in &found {
+        let which = (difference.index / SHARE) as usize;
+        let folder = folders[which / 8].display();
+        println!(
+            "DIFFERENCE {folder} flag {} mode {}: {}",
+            which / 4 % 2,
+            which % 4,
+            difference.words
+        );
+    }
+    println!("{} differences off the list", found.len());
+    match tally.jobs {
+        0 => Err(io::Error::other("no folder with a job")),
+        _ if found.is_empty() => Ok(ExitCode::SUCCESS),
+        _ => Ok(ExitCode::FAILURE),
+    }
 }
 
 /// Runs the jobs of a list again, against those of the others that are there, and against the
@@ -165,11 +242,12 @@ fn replay(file: &str, time: Option<Duration>) -> io::Result<ExitCode> {
         if done > 0 && time.is_some_and(|time| start.elapsed() >= time) {
             break;
         }
-        let [seed, first, digest] = line.split(' ').collect::<Vec<_>>()[..] else {
+        let [kind, seed, first, digest] = line.split(' ').collect::<Vec<_>>()[..] else {
             return Err(io::Error::other(format!("no line of a list: {line}")));
         };
         let (seed, first) = (number(seed)?, number(first)?);
         let whole = Run {
+            kind: which(kind)?,
             seed,
             first,
             jobs: BATCH,

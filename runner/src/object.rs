@@ -5,13 +5,14 @@ use crate::random::Random;
 
 pub const SECTIONS: [&str; 4] = [".text", ".data", ".rodata", ".bss"];
 
-const PROGBITS: u32 = 1;
+pub const PROGBITS: u32 = 1;
 const SYMTAB: u32 = 2;
 const STRTAB: u32 = 3;
 const RELA: u32 = 4;
-const NOBITS: u32 = 8;
+pub const NOBITS: u32 = 8;
 const REL: u32 = 9;
 
+#[derive(Clone)]
 pub struct Symbol {
     pub name: String,
     pub value: u32,
@@ -19,9 +20,12 @@ pub struct Symbol {
     pub info: u8,
 }
 
+#[derive(Clone, Copy, PartialEq)]
 pub enum Index {
     /// The first section of this name, if there is one, else undefined.
     Named(&'static str),
+    /// The last section of this name.
+    Last(&'static str),
     /// As it is: undefined, absolute, common or another reserved index.
     Stored(u16),
 }
@@ -74,16 +78,50 @@ impl Shape {
 }
 
 #[derive(Clone, Default)]
-struct Section {
-    name: String,
-    kind: u32,
-    flags: u32,
-    size: usize,
-    data: Vec<u8>,
+pub struct Section {
+    pub name: String,
+    pub kind: u32,
+    pub flags: u32,
+    /// Of a section without bytes.
+    pub size: usize,
+    pub data: Vec<u8>,
+    /// Words of its bytes that count from the section's start, and in the file from the file's.
+    pub offsets: Vec<usize>,
+    pub align: u32,
+    /// Of a relocation table: the name of the section that it is for.
+    goal: &'static str,
     link: u32,
     info: u32,
-    align: u32,
     entry: u32,
+}
+
+/// A relocation table named after the first section of a name.
+pub struct Table {
+    pub target: &'static str,
+    /// The name of the section that it is for.
+    pub goal: &'static str,
+    pub rela: bool,
+    pub entries: Vec<Entry>,
+}
+
+/// An entry of a table; its symbol is counted from 1.
+pub struct Entry {
+    pub offset: u32,
+    pub symbol: usize,
+    pub kind: u8,
+    pub addend: u32,
+}
+
+/// What an object is made of: sections that may stand in any order, and those behind all others.
+pub struct Parts {
+    pub sections: Vec<Section>,
+    pub last: Vec<Section>,
+    pub symbols: Vec<Symbol>,
+    pub tables: Vec<Table>,
+    /// The symbol table's sh_info.
+    pub locals: u32,
+    /// Whether names that end another's are shared with it; chance decides where nothing is said.
+    pub merged: Option<bool>,
 }
 
 /// An object with these symbols after entry 0.
@@ -93,38 +131,103 @@ pub fn object(random: &mut Random, symbols: &[Symbol]) -> Vec<u8> {
     let mut sections = plain_sections(random);
     sections.resize(
         sections.len() + shape.more_sections,
-        table(".more", PROGBITS),
+        section(".more", PROGBITS),
     );
     random.shuffle(&mut sections);
+    let tables = add_tables(random, &mut sections);
+    if random.once_in(2) {
+        random.shuffle(&mut sections);
+    }
+    sections.insert(0, Section::default());
+    let symtab = position(&sections, ".symtab").expect("it was pushed");
+    relocations(random, shape, &mut sections, symtab, symbols.len() + 1);
+    let locals = 1 + symbols.iter().filter(|s| s.info < 16).count() as u32;
+    finish(random, shape, sections, tables, symbols, (locals, None))
+}
+
+/// An object of these parts.
+pub fn object_of(random: &mut Random, parts: Parts) -> Vec<u8> {
+    let shape = &Shape::new(random);
+    let mut sections = parts.sections;
+    sections.resize(
+        sections.len() + shape.more_sections,
+        section(".more", PROGBITS),
+    );
+    let names = add_tables(random, &mut sections);
+    for table in &parts.tables {
+        let (prefix, kind) = if table.rela {
+            (".rela", RELA)
+        } else {
+            (".rel", REL)
+        };
+        let mut relocations = section(&format!("{prefix}{}", table.target), kind);
+        for entry in &table.entries {
+            let info = (entry.symbol as u32) << 8 | u32::from(entry.kind);
+            shape.words(&mut relocations.data, &[entry.offset, info]);
+            if table.rela {
+                shape.words(&mut relocations.data, &[entry.addend]);
+            }
+        }
+        (relocations.entry, relocations.align) = (if table.rela { 12 } else { 8 }, 4);
+        relocations.goal = table.goal;
+        sections.push(relocations);
+    }
+    if random.once_in(2) {
+        random.shuffle(&mut sections);
+    }
+    sections.insert(0, Section::default());
+    sections.extend(parts.last);
+    let symtab = position(&sections, ".symtab").expect("it was pushed") as u32;
+    for i in 0..sections.len() {
+        if [REL, RELA].contains(&sections[i].kind) {
+            let goal = position(&sections, sections[i].goal).unwrap_or(0) as u32;
+            (sections[i].link, sections[i].info) = (symtab, goal);
+        }
+    }
+    let table = (parts.locals, parts.merged);
+    finish(random, shape, sections, names, &parts.symbols, table)
+}
+
+/// The first section of a name.
+fn position(sections: &[Section], name: &str) -> Option<usize> {
+    sections.iter().position(|s| s.name == name)
+}
+
+/// Adds string tables and the symbol table; gives the name of the symbols' string table.
+fn add_tables(random: &mut Random, sections: &mut Vec<Section>) -> &'static str {
     // The symbols' names may stand in the table of the sections' names.
     let shared = random.once_in(8);
     let strings_name = if shared { ".shstrtab" } else { ".strtab" };
     for name in [".shstrtab", strings_name, ".stabstr"] {
         let there = sections.iter().any(|s| s.name == name);
         if !there && (name != ".stabstr" || random.once_in(4)) {
-            sections.push(table(name, STRTAB));
+            sections.push(section(name, STRTAB));
         }
     }
-    sections.push(table(".symtab", SYMTAB));
-    if random.once_in(2) {
-        random.shuffle(&mut sections);
-    }
-    sections.insert(0, Section::default());
-    let at = |sections: &[Section], name: &str| sections.iter().position(|s| s.name == name);
-    let symtab = at(&sections, ".symtab").expect("it was pushed");
-    let names_in = at(&sections, ".shstrtab").expect("it was pushed");
-    let strings_in = at(&sections, strings_name).expect("it was pushed");
-    relocations(random, shape, &mut sections, symtab, symbols.len() + 1);
+    sections.push(section(".symtab", SYMTAB));
+    strings_name
+}
 
-    let mut strings = Strings::new(random.once_in(4));
+/// Fills the string tables and the symbol table, and lays all out.
+fn finish(
+    random: &mut Random,
+    shape: &Shape,
+    mut sections: Vec<Section>,
+    strings_name: &str,
+    symbols: &[Symbol],
+    (locals, merged): (u32, Option<bool>),
+) -> Vec<u8> {
+    let symtab = position(&sections, ".symtab").expect("it was pushed");
+    let names_in = position(&sections, ".shstrtab").expect("it was pushed");
+    let strings_in = position(&sections, strings_name).expect("it was pushed");
+    let mut strings = Strings::new(merged.unwrap_or_else(|| random.once_in(4)));
     let mut entries = vec![0; if shape.no_symbols { 0 } else { 16 }];
-    let mut locals = 1;
     for symbol in symbols {
         let index = match symbol.index {
-            Index::Named(name) => at(&sections, name).unwrap_or(0) as u16,
+            Index::Named(name) => position(&sections, name).unwrap_or(0) as u16,
+            Index::Last(name) => sections.iter().rposition(|s| s.name == name).unwrap_or(0) as u16,
             Index::Stored(index) => index,
         };
-        locals += u32::from(symbol.info < 16);
         shape.words(
             &mut entries,
             &[
@@ -136,7 +239,7 @@ pub fn object(random: &mut Random, symbols: &[Symbol]) -> Vec<u8> {
         entries.extend([symbol.info, random.below(4) as u8]);
         shape.halves(&mut entries, &[index]);
     }
-    let mut names = match shared {
+    let mut names = match strings_in == names_in {
         true => strings,
         false => {
             sections[strings_in].data = strings.bytes;
@@ -151,7 +254,8 @@ pub fn object(random: &mut Random, symbols: &[Symbol]) -> Vec<u8> {
     file(random, shape, &sections, &offsets, names_in)
 }
 
-fn table(name: &str, kind: u32) -> Section {
+/// An empty section.
+pub fn section(name: &str, kind: u32) -> Section {
     let (name, align) = (name.into(), 1);
     Section {
         name,
@@ -167,7 +271,7 @@ fn plain_sections(random: &mut Random) -> Vec<Section> {
     for name in SECTIONS {
         for _ in 0..*random.pick(&[0, 1, 1, 1, 1, 1, 1, 1, 2]) {
             let size = 4 * random.below(40) + random.below(2) * random.below(4);
-            let mut section = table(name, if name == ".bss" { NOBITS } else { PROGBITS });
+            let mut section = section(name, if name == ".bss" { NOBITS } else { PROGBITS });
             section.flags = random.below(8) as u32;
             section.align = *random.pick(&[0, 1, 4, 8, 16]);
             section.size = size;
@@ -186,7 +290,7 @@ fn plain_sections(random: &mut Random) -> Vec<Section> {
         ("", PROGBITS),
     ] {
         if random.once_in(5) {
-            let mut section = table(name, kind);
+            let mut section = section(name, kind);
             section.data = random.bytes(24);
             sections.push(section);
         }
@@ -208,7 +312,7 @@ fn relocations(
         }
         let (prefix, kind, entry) = *random.pick(&[(".rel", REL, 8), (".rela", RELA, 12)]);
         let name = format!("{prefix}{}", sections[target].name);
-        let mut relocations = table(&name, kind);
+        let mut relocations = section(&name, kind);
         for _ in 0..random.below(4) {
             let offset = random.below(sections[target].data.len() + 1) as u32;
             let info = (random.below(symbols) << 8 | random.below(16)) as u32;
@@ -222,6 +326,9 @@ fn relocations(
         sections.push(relocations);
     }
 }
+
+/// Names that are looked for at the end of a string table first.
+const LONG: usize = 1000;
 
 /// A string table; names that end another's are shared with it where `merged` is set.
 struct Strings {
@@ -242,6 +349,9 @@ impl Strings {
         ended.push(0);
         if name.is_empty() {
             return 0;
+        }
+        if self.merged && name.len() > LONG && self.bytes.ends_with(&ended) {
+            return (self.bytes.len() - ended.len()) as u32;
         }
         if self.merged {
             let found = self.bytes.windows(ended.len()).position(|w| w == ended);
@@ -278,7 +388,14 @@ fn file(
             NOBITS => (start + body.len(), section.size),
             _ => (start + body.len(), section.data.len()),
         };
+        let placed = body.len();
         body.extend(&section.data);
+        for &at in &section.offsets {
+            if let Some(word) = body[placed..].get_mut(at..at + 4) {
+                let old = u32::from_be_bytes([word[0], word[1], word[2], word[3]]);
+                word.copy_from_slice(&old.wrapping_add(offset as u32).to_be_bytes());
+            }
+        }
         let [offset, size] = [offset as u32, size as u32];
         let first = [*name, section.kind, section.flags, 0, offset, size];
         let rest = [section.link, section.info, section.align, section.entry];

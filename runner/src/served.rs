@@ -1,6 +1,9 @@
 //! The Rust and the model, each behind a process that answers requests in order.
 
-use crate::{job::Job, port::Refusal};
+use crate::{
+    job::{Job, Kind},
+    port::Refusal,
+};
 use std::{
     io::{self, BufReader, BufWriter, Read, Write},
     path::Path,
@@ -30,7 +33,7 @@ impl Server {
     }
 
     /// Each part after its length.
-    fn send(&mut self, parts: [&[u8]; 3]) -> io::Result<()> {
+    fn send(&mut self, parts: &[&[u8]]) -> io::Result<()> {
         for part in parts {
             self.requests
                 .write_all(&(part.len() as u32).to_be_bytes())?;
@@ -55,7 +58,7 @@ impl Server {
 
 /// What the unchanged Rust says.
 pub enum RustAnswer {
-    Draft(Vec<u8>),
+    Done(Vec<u8>),
     /// With its message.
     Refused(String),
     /// With the reason.
@@ -72,14 +75,35 @@ impl Rust {
         Server::start(command.arg("serve").stderr(Stdio::null())).map(Rust)
     }
 
-    pub fn draft(&mut self, job: &Job) -> io::Result<RustAnswer> {
-        self.0.requests.write_all(&[0])?;
-        self.0.send([&job.compiled, &job.prelude, &job.blocks])?;
+    pub fn ask(&mut self, job: &Job) -> io::Result<RustAnswer> {
+        let Job {
+            compiled,
+            second,
+            blocks,
+            merge,
+        } = job;
+        match merge {
+            None => {
+                self.0.requests.write_all(&[0])?;
+                self.0.send(&[compiled, second, blocks])?;
+            }
+            Some(settings) => {
+                let (Ok(flag @ ..=1), Ok(mode @ ..=3)) =
+                    (u8::try_from(settings.flag), u8::try_from(settings.mode))
+                else {
+                    return Ok(RustAnswer::NoVerdict("an unknown flag or mode".into()));
+                };
+                self.0.requests.write_all(&[1])?;
+                self.0
+                    .send(&[compiled, second, b"", blocks, &settings.path])?;
+                self.0.requests.write_all(&[flag, mode])?;
+            }
+        }
         let [code] = self.0.read()?;
         let part = self.0.read_part()?;
         let text = |part| String::from_utf8_lossy(part).into_owned();
         match code {
-            0 => Ok(RustAnswer::Draft(part)),
+            0 => Ok(RustAnswer::Done(part)),
             1 => Ok(RustAnswer::Refused(text(&part))),
             2 => Ok(RustAnswer::NoVerdict(text(&part))),
             _ => Err(io::Error::other("an unknown answer of the oracle")),
@@ -89,7 +113,7 @@ impl Rust {
 
 /// What the model says. Its drafts are known by their length alone where they pass the room.
 pub enum ModelAnswer {
-    Draft(Vec<u8>),
+    Done(Vec<u8>),
     Refused(Refusal),
 }
 
@@ -101,12 +125,22 @@ impl Model {
         Server::start(Command::new("python3").arg(script).arg(model)).map(Model)
     }
 
-    pub fn draft(&mut self, job: &Job, room: u64) -> io::Result<ModelAnswer> {
-        self.0.send([&job.compiled, &job.prelude, &job.blocks])?;
+    /// Its answer to a job; a merged object is held against demand 3 as well.
+    pub fn ask(&mut self, job: &Job, room: u64) -> io::Result<ModelAnswer> {
+        self.0
+            .requests
+            .write_all(&[u8::from(job.kind() == Kind::Merge)])?;
+        self.0.send(&[&job.compiled, &job.second, &job.blocks])?;
         self.0.requests.write_all(&room.to_be_bytes())?;
+        if let Some(settings) = &job.merge {
+            self.0.send(&[&settings.path])?;
+            for word in [settings.flag, settings.mode] {
+                self.0.requests.write_all(&word.to_be_bytes())?;
+            }
+        }
         let [number] = self.0.read::<4>().map(|b| [u32::from_be_bytes(b)])?;
         if number == 0 {
-            return self.0.read_part().map(ModelAnswer::Draft);
+            return self.0.read_part().map(ModelAnswer::Done);
         }
         let object = u32::from_be_bytes(self.0.read()?);
         let place = u64::from_be_bytes(self.0.read()?);

@@ -1,11 +1,12 @@
-//! Times the proved draft and the Rust's on the same jobs in one process, turn by turn.
+//! Times the proved calls and the Rust's on the same jobs in one process, turn by turn.
 
 use crate::{
-    job::Job,
+    job::{Job, Kind},
+    large,
     object::{Index, Symbol, object},
+    port::{invoke, least},
     random::Random,
 };
-use daphulle::call::{BLOCK_TABLE, PLACE_TABLE, draft_into};
 use oracle::{Answer, Shell, run};
 use std::{hint::black_box, io, panic, time::Instant};
 
@@ -72,61 +73,55 @@ fn made(size: Size) -> Job {
     let compiled = object(&mut Random::new(1, 2), &symbols);
     Job {
         compiled,
-        prelude: b".set noat\n.set noreorder".to_vec(),
+        second: b".set noat\n.set noreorder".to_vec(),
         blocks: blocks.into_bytes(),
+        merge: None,
     }
 }
 
-/// Medians in microseconds, of the proved call and of the Rust, and the draft's length.
+/// Medians in microseconds, of the proved call and of the Rust, and the result's length.
 struct Times {
     port: f64,
     rust: f64,
     length: usize,
 }
 
+/// The longest result.
+const MOST: usize = 8 << 20;
+
 fn time(job: &Job, rounds: usize) -> io::Result<Times> {
-    let mut out = vec![0; 8 << 20];
-    let (mut table, mut places) = (vec![0; BLOCK_TABLE], vec![0; PLACE_TABLE]);
-    let mut call = |room: usize| {
-        let (c, p, b) = (&job.compiled, &job.prelude, &job.blocks);
-        black_box(draft_into(
-            c,
-            p,
-            b,
-            &mut out[..room],
-            &mut table,
-            &mut places,
-        ))
+    let mut out = vec![0; MOST];
+    let mut working: Vec<Vec<u8>> = least(job.kind()).iter().map(|&n| vec![0; n]).collect();
+    let files: Vec<&[u8]> = job.files().into_iter().map(|(_, bytes)| bytes).collect();
+    let mut call = |room: usize, out: &mut [u8]| {
+        let lent = working.iter_mut().map(|buffer| &mut buffer[..]);
+        let mut buffers: Vec<&mut [u8]> = [&mut out[..room]].into_iter().chain(lent).collect();
+        black_box(invoke(job, &files, &mut buffers))
     };
+    let settings = job.merge.as_ref();
+    let second = &job.second[..];
     let asked = oracle::Job {
         compiled: &job.compiled,
-        assembled: None,
-        prelude: &job.prelude,
+        assembled: settings.map(|_| second),
+        prelude: if settings.is_some() { b"" } else { second },
         blocks: &job.blocks,
-        path: b"c.o",
-        drop_mdebug_gptab: false,
-        statics: 0,
+        path: settings.map_or(b"c.o", |settings| &settings.path),
+        drop_mdebug_gptab: settings.is_some_and(|settings| settings.flag == 1),
+        statics: settings.map_or(0, |settings| settings.mode as u8),
     };
-    let room = call(8 << 20).length as usize;
+    let room = call(MOST, &mut out).length as usize;
     let (mut port, mut rust) = (vec![], vec![]);
     for _ in 0..rounds {
         let start = Instant::now();
-        let outcome = call(room);
+        let outcome = call(room, &mut out);
         port.push(start.elapsed().as_secs_f64() * 1e6);
         let start = Instant::now();
         let answer = black_box(run(&asked, Shell::Quick));
         rust.push(start.elapsed().as_secs_f64() * 1e6);
-        let same = matches!(&answer, Answer::Done(draft) if draft.len() == room);
+        let same = matches!(&answer, Answer::Done(done) if *done == out[..room]);
         if outcome.number != 0 || !same {
             return Err(io::Error::other(format!("{outcome:?}, the Rust: {same}")));
         }
-    }
-    let Answer::Done(draft) = run(&asked, Shell::Quick) else {
-        return Err(io::Error::other("the Rust gave a draft only before"));
-    };
-    call(room);
-    if draft != out[..room] {
-        return Err(io::Error::other("the drafts differ"));
     }
     let [port, rust] = [port, rust].map(median);
     Ok(Times {
@@ -141,8 +136,42 @@ fn median(mut times: Vec<f64>) -> f64 {
     times[times.len() / 2]
 }
 
-pub fn speed(rounds: usize) -> io::Result<()> {
+pub fn speed(kind: Kind, rounds: usize) -> io::Result<()> {
     panic::set_hook(Box::new(|_| ()));
+    match kind {
+        Kind::Draft => drafts(rounds),
+        Kind::Merge => merges(rounds),
+    }
+}
+
+/// Merges of all sizes, and such as make a careless merge slow; those have few rounds.
+fn merges(rounds: usize) -> io::Result<()> {
+    println!(
+        "| job | blocks | symbols of C and of A | relocations | statics | C and A, bytes | result | proved, us | Rust, us | Rust / proved |"
+    );
+    println!("|---|---|---|---|---|---|---|---|---|---|");
+    for (name, size) in large::sizes() {
+        let job = large::merge(size);
+        let rounds = if size.is_hostile() {
+            rounds.min(3)
+        } else {
+            rounds
+        };
+        let Times { port, rust, length } = time(&job, rounds)?;
+        let [of_c, of_a] = [&job.compiled, &job.second].map(|file| large::symbols(file));
+        println!(
+            "| {name} | {} | {of_c}, {of_a} | {} | {} | {} | {length} | {port:.1} | {rust:.1} | {:.1} |",
+            size.blocks,
+            2 * size.relocations,
+            size.statics,
+            job.compiled.len() + job.second.len(),
+            rust / port
+        );
+    }
+    Ok(())
+}
+
+fn drafts(rounds: usize) -> io::Result<()> {
     println!(
         "| job | blocks | symbols | block file | draft | proved, us | Rust, us | Rust / proved | proved, ns a byte |"
     );

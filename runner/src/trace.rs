@@ -2,17 +2,46 @@
 //! blocks are found by `objdump` in this very program, and each gets a breakpoint that is taken
 //! out when it is reached: what is known already runs at full speed.
 
-use std::{collections::BTreeSet, env, io, process::Command};
+use std::{
+    collections::{BTreeMap, BTreeSet},
+    env, io,
+    process::Command,
+};
 
 unsafe extern "C" {
     fn traps_set(addresses: *const *mut u8, n: usize) -> i32;
     fn traps_hit() -> usize;
+    fn traps_wait(i: usize) -> i32;
     /// The exported call, for its address alone.
     fn draft();
 }
 
-/// Sets the breakpoints and gives their number.
-pub fn start() -> io::Result<usize> {
+/// The function of each block that has a breakpoint.
+pub struct Trace(Vec<String>);
+
+impl Trace {
+    pub fn blocks(&self) -> usize {
+        self.0.len()
+    }
+
+    /// The functions with blocks that were not reached, and how many of how many.
+    pub fn missed(&self) -> Vec<(&str, usize, usize)> {
+        let mut counts: BTreeMap<&str, (usize, usize)> = BTreeMap::new();
+        for (i, name) in self.0.iter().enumerate() {
+            let (missed, all) = counts.entry(name).or_default();
+            // SAFETY: it reads a byte of the program's own code.
+            *missed += usize::from(unsafe { traps_wait(i) } != 0);
+            *all += 1;
+        }
+        let counts = counts.into_iter().filter(|(_, (missed, _))| *missed > 0);
+        counts
+            .map(|(name, (missed, all))| (name, missed, all))
+            .collect()
+    }
+}
+
+/// Sets the breakpoints.
+pub fn start() -> io::Result<Trace> {
     let listing = Command::new("objdump")
         .args(["-d", "-w", "--no-show-raw-insn"])
         .arg(env::current_exe()?)
@@ -29,8 +58,19 @@ pub fn start() -> io::Result<usize> {
     // SAFETY: each address is the first byte of an instruction of this program's own code.
     match unsafe { traps_set(addresses.as_ptr(), addresses.len()) } {
         0 => Err(io::Error::other("breakpoints cannot be set")),
-        _ => Ok(addresses.len()),
+        _ => Ok(Trace(functions(&listing, &blocks))),
     }
+}
+
+/// The function that each block is in.
+fn functions(listing: &str, blocks: &BTreeSet<u64>) -> Vec<String> {
+    let heads = listing.lines().filter_map(|line| {
+        let (at, name) = line.strip_suffix(">:")?.split_once(" <")?;
+        Some((u64::from_str_radix(at, 16).ok()?, name))
+    });
+    let heads: BTreeMap<u64, &str> = heads.collect();
+    let name = |at: &u64| heads.range(..=at).next_back().map_or("", |(_, name)| name);
+    blocks.iter().map(|at| name(at).to_string()).collect()
 }
 
 pub fn hits() -> usize {
@@ -44,9 +84,9 @@ fn address_of(listing: &str, name: &str) -> Option<u64> {
     u64::from_str_radix(line.split(' ').next()?, 16).ok()
 }
 
-/// The functions of the archive have names with `::` that are not mangled, or are `draft`.
+/// The functions of the archive have names with `::` that are not mangled, or are exported.
 fn is_archive(name: &str) -> bool {
-    name == "draft" || name.contains("::") && !name.contains(['<', ' ', '$'])
+    name == "draft" || name == "merge" || name.contains("::") && !name.contains(['<', ' ', '$'])
 }
 
 /// Where blocks begin: at functions, at jumps' targets, and behind jumps and returns.

@@ -12,7 +12,7 @@
 
 enum { PAGE = 4096, BREAKPOINT = 0xcc };
 
-static struct block { uint8_t *at, byte; } blocks[8192];
+static struct block { uint8_t *at, byte; } blocks[32768];
 static size_t count, hits;
 
 static void reached(int signal_number, siginfo_t *info, void *context) {
@@ -46,6 +46,9 @@ int traps_set(uint8_t *const *addresses, size_t n) {
     return 1;
 }
 
+// Whether block i has not been run.
+int traps_wait(size_t i) { return *blocks[i].at == BREAKPOINT; }
+
 // How many of the blocks have been run.
 size_t traps_hit(void) { return hits; }
 
@@ -56,11 +59,11 @@ uint8_t *fence_pages(size_t n) {
     return whole + PAGE;
 }
 
-static struct input { const uint8_t *bytes; size_t length; const char *path; } inputs[3];
+static struct input { const uint8_t *bytes; size_t length; const char *path; } inputs[4];
 
 static void died(int signal_number) {
     static const char words[] = "runner: the call died; its inputs are in the folder of findings\n";
-    for (int i = 0; i < 3; i++) {
+    for (int i = 0; i < 4 && inputs[i].path; i++) {
         int file = open(inputs[i].path, O_WRONLY | O_CREAT | O_TRUNC, 0644);
         for (size_t at = 0; file >= 0 && at < inputs[i].length;) {
             ssize_t n = write(file, inputs[i].bytes + at, inputs[i].length - at);

@@ -35,11 +35,15 @@ fn a_list_is_replayed_to_its_end() {
 
 #[test]
 fn other_answers_than_the_lists_are_found() {
-    let list = include_str!("../replay.txt");
-    let first = list.lines().next().expect("a line");
-    let digit = if first.ends_with('0') { "1\n" } else { "0\n" };
-    let other = [&first[..first.len() - 1], digit].concat();
-    let (status, words) = replay("other", &[&other], "600");
-    assert_eq!(status, Some(1), "{words}");
-    assert!(words.contains("the answers are not the list's"), "{words}");
+    for list in [
+        include_str!("../replay.txt"),
+        include_str!("../replay_merges.txt"),
+    ] {
+        let first = list.lines().next().expect("a line");
+        let digit = if first.ends_with('0') { "1\n" } else { "0\n" };
+        let other = [&first[..first.len() - 1], digit].concat();
+        let (status, words) = replay("other", &[&other], "600");
+        assert_eq!(status, Some(1), "{words}");
+        assert!(words.contains("the answers are not the list's"), "{words}");
+    }
 }

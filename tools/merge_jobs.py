@@ -1,16 +1,15 @@
 #!/usr/bin/env python3
-"""Makes the jobs that the program prog_splice_jobs runs, and what it must print.
+"""Makes the jobs that the program prog_merge_jobs runs, and what it must print.
 
-  tools/splice_jobs.py               writes crates/prog_splice_jobs/{data/jobs,args,stdout}
-  tools/splice_jobs.py SEED COUNT    runs COUNT other jobs, made and damaged, through target/bin/prog_splice_jobs, and compares each answer with the model's and,
-                                     where the Rust (oracle/target/release/oracle) merges the job, with the sections and the symbol table of its object
-  tools/splice_jobs.py speed         times both on jobs that grow
+  tools/merge_jobs.py               writes crates/prog_merge_jobs/{data/jobs,args,stdout}
+  tools/merge_jobs.py SEED COUNT    runs COUNT other jobs, made and damaged, through target/bin/prog_merge_jobs, and compares each answer with the model's and, where
+                                    the Rust (oracle/target/release/oracle) merges the job, with its object, byte for byte
 
 A job is a compiled object, an assembled one and a block file, a path, a statics mode and a drop flag, and the lengths of the output and of the working buffers. What is
-expected comes from the model of document 01 (MODEL, by default ../shared/model): the refusals of lengths, of both objects, of the block file and of places, then 10 to
-21; or the bytes that the merge writes over C's .text, .data, .rodata and .reginfo, one behind the other, the number of local entries of the result's symbol table,
-and that table. Real jobs come from Debian's gcc-mips-linux-gnu and binutils-mips-linux-gnu, where the model's draft is assembled, and from CASES (by default
-../shared/cases/real.tar.xz); where either is not there, its jobs are those of the recorded list. The program has no say.
+expected comes from the model of document 01 (MODEL, by default ../shared/model): a refusal or the merged object. Every merged object is read again by the model's
+demand3.py, which says whether no reference was lost, doubled or redirected. Real jobs come from Debian's gcc-mips-linux-gnu and binutils-mips-linux-gnu, where the
+model's draft is assembled, and from CASES (by default ../shared/cases/real.tar.xz); where either is not there, its jobs are those of the recorded list. The program
+has no say.
 """
 import os
 import random
@@ -20,16 +19,15 @@ import subprocess
 import sys
 import tarfile
 import tempfile
-import time
 
 TOP = os.path.dirname(os.path.dirname(os.path.abspath(__file__)))
 sys.path.insert(0, os.path.join(TOP, 'tools'))
 sys.path.insert(0, os.environ.get('MODEL', os.path.join(TOP, '..', 'shared', 'model')))
-import carry_jobs, draft_jobs, model, real_jobs, statics_jobs, symbol_jobs  # noqa: E402
+import carry_jobs, demand3, draft_jobs, model, real_jobs, symbol_jobs, write_jobs  # noqa: E402
 
 CASES = os.environ.get('CASES', os.path.join(TOP, '..', 'shared', 'cases', 'real.tar.xz'))
-FOLDER = os.path.join(TOP, 'crates', 'prog_splice_jobs')
-WRITTEN = model.TEXT, model.DATA, model.RODATA, model.REGINFO
+FOLDER = os.path.join(TOP, 'crates', 'prog_merge_jobs')
+PROGRAM = os.path.join(TOP, 'target', 'bin', 'prog_merge_jobs')
 LATE_LABELS = b'_asmpp_late_rodata_start', b'_asmpp_late_rodata_end'
 SH_TYPE, SH_LINK, SH_INFO, SH_ENTSIZE = 1, 6, 7, 9
 
@@ -134,6 +132,18 @@ def damaged_jobs(count, seed):
             part = chance.choice(job)
             part[chance.randrange(len(part))] ^= 1 << chance.randrange(8)
         yield symbol_jobs.Job(*map(bytes, job))
+
+
+def laid_out_jobs(count, seed):
+    """C laid out in every way: alignments, a debug section that moves or not, sections in one another, headers in front; A brings tables, some of them new"""
+    chance = random.Random(seed)
+    for n in range(count):
+        c = write_jobs.KINDS[n % len(write_jobs.KINDS)](chance)
+        has = [name for name in (b'.text', b'.data', b'.rodata') if b'\0' + name + b'\0' in c and chance.randrange(3)]
+        tables = [(chance.choice((b'.rel', b'.rela')) + name, [chance.randrange(1, 3) for _ in range(chance.randrange(3))]) for name in has]
+        a = {b'.reginfo': chance.randbytes(24), **{name: chance.randbytes(8) for name in has}, **{name: symbol_jobs.table_of(name, used) for name, used in tables}}
+        assembled = symbol_jobs.made(a, [symbol_jobs.Sym(b'bc', has[0] if has else 0, 4), symbol_jobs.Sym(b'd', 0)])
+        yield symbol_jobs.Job(c, assembled, b'', chance.choice((b'c.o', b'src/c.o')), chance.randrange(4), flag=chance.randrange(2))
 
 
 # ---------------------------------------------------------------- jobs at a limit
@@ -299,65 +309,20 @@ def real_splices():
 
 # ---------------------------------------------------------------- what is expected
 
-def symbol_table(c, a, blocks, spans, live, late, path, mode):
-    """refusal 15, 16, 17, 18, 19 or 20, or the number of local entries of the result's symbol table and that table"""
-    r = model.refusal(15, model.faults_15(c, a)) or model.refusal(16, model.faults_16(a, late))
-    if r:
-        return r
-    place, statics = None, []
-    debug = model.first_named(c.sections, b'.mdebug')
-    if mode != 0 and debug is not None:
-        place, statics = model.walk_statics(c, c.sections[debug].data)
-    if place is not None:
-        return 'refused', 17, 1, place
-    listed = model.symbol_list(c, a, late, blocks, spans, live, statics, path, mode)
-    r = model.refusal(18, model.faults_18(listed)) or model.refusal(19, model.faults_19(listed))
-    r = r or model.refusal(20, model.faults_20(c, a, spans, late, model.new_indices(listed)))
-    if r:
-        return r
-    order = [listed[p].symbol for p in model.result_order(listed)]
-    local = 1 + sum(s.st_bind == model.STB_LOCAL for s in order)
-    return 'ok', model.w32(local) + bytes(16) + b''.join(map(model.write_symbol, order))
-
-
 def expected(job):
-    """the model's refusal of these stages, or the bytes of the four sections, the number of local entries and the symbol table"""
-    if model.faults_1(job[:3], job.path, job.flag, job.mode) or any(n < least for n, least in zip(job.buffers, symbol_jobs.BUFFERS)):
+    """the model's refusal, or the merged object"""
+    if any(n < least for n, least in zip(job.buffers, symbol_jobs.BUFFERS)):
         return 'refused', 1, 0, 0
-    r = model.object_refusal(job.compiled, model.OBJ_C)
-    if r:
-        return r
-    blocks, line = model.parse_blocks(job.file)
-    if line is not None:
-        return 'refused', 7, 0, line
-    c = model.read_object(job.compiled)
-    r, spans, live = model.walk_blocks(c, blocks)
-    r = r or model.object_refusal(job.assembled, model.OBJ_A)
-    if r:
-        return r
-    a = model.read_object(job.assembled)
-    runs_late = model.late_step(blocks, live)
-    r = (model.refusal(10, model.faults_10(c, a, model.dropped_from(c.sections, job.flag))) or model.refusal(11, model.faults_11(c, a, spans, runs_late)) or model.refusal(12, model.faults_12(a, spans))
-         or model.refusal(13, model.faults_13(a, blocks, live) if runs_late else []))
-    if r:
-        return r
-    held = {code: c.sections[model.find(c, code)].data if model.find(c, code) is not None else b'' for code in model.NAME}
-    for code in model.COPY_CODES:
-        if any(s.code == code for s in spans):
-            held[code] = model.copy_spans(held[code], a.sections[model.find(a, code)].data, spans, code)
-    late = model.Late({}, frozenset(), None)
-    if runs_late:
-        block, late = model.late_moves(c, a, blocks, spans, live)
-        if block is not None:
-            return 'refused', 14, 1, block
-        held[model.RODATA] = late.rodata
-    if held[model.REGINFO]:
-        held[model.REGINFO] = model.or_reginfo(held[model.REGINFO], a.sections[model.find(a, model.REGINFO)].data)
-    got = symbol_table(c, a, blocks, spans, live, late, job.path, job.mode)
-    if got[0] == 'refused':
-        return got
-    out = b''.join(held[code] for code in WRITTEN) + got[1]
-    return ('ok', out) if len(out) <= job.room else ('refused', 21, 0, len(out))
+    return model.merge(*job[:4], job.flag, job.mode, job.room)
+
+
+def demanded(job, merged):
+    """whether a merged object fulfils demand 3: in it no reference is lost, doubled or redirected"""
+    try:
+        demand3.check(*job[:4], job.flag, job.mode, merged)
+        return True
+    except AssertionError:
+        return False
 
 
 def packed(job):
@@ -394,13 +359,6 @@ class Rust:
         """the merged object; nothing where the Rust has none"""
         kind, answer = self.ask(*job)
         return model.read_object(answer) if kind == 0 else None
-
-
-def result_of(merged):
-    """what is expected of a job, as a merged object has it"""
-    table = merged.sections[merged.symtab]
-    held = [merged.sections[at].data for at in (model.find(merged, code) for code in WRITTEN) if at is not None]
-    return b''.join(held) + model.w32(table.sh_info) + table.data
 
 
 def header_rows(b, number, place):
@@ -477,11 +435,6 @@ def row_of(job, number, who, place):
     return next((name for name, met in rows if met), None)
 
 
-def later_refusal(job):
-    """whether the model refuses an accepted job by the 17 of a moved debug section, which these stages do not have"""
-    return model.merge(*job[:4], job.flag, job.mode)[0] == 'refused'
-
-
 def not_for_rust(job):
     """why the Rust, or the oracle, cannot have a job: its path names no file or has a stem of over 239 bytes, or a label has bytes over 127; nothing where it can"""
     stem = os.path.splitext(os.path.basename(job.path))[0]
@@ -505,15 +458,16 @@ class Beside:
 
     def hold_result(self, job, got, kind, answer):
         """how the Rust's answer to an accepted job stands to the result, and whether that is on the list"""
-        if kind == 0 and result_of(model.read_object(answer)) == got[1]:
-            return 'merged alike', True
-        if kind != 0 and not_for_rust(job):
-            return f'accepted here, left out: {not_for_rust(job)}', True
-        words = 'merged otherwise' if kind == 0 else 'not merged'
-        return f'accepted here, {words} by the Rust, left out: refused by the 17 of a moved debug section', later_refusal(job)
+        if kind == 0:
+            return ('merged alike', True) if answer == got[1] else ('merged otherwise by the Rust', False)
+        why = not_for_rust(job)
+        return f'accepted here, left out: {why}', why is not None
 
     def hold(self, name, job, got):
-        """counts a job; prints it where the Rust differs for a reason on no list"""
+        """counts a job; prints it where the Rust differs for a reason on no list, or the merged object does not fulfil demand 3"""
+        if got[0] == 'ok' and not demanded(job, got[1]):
+            self.wrong += 1
+            print(f'{name}: the merged object does not fulfil demand 3')
         if got[:2] in (('refused', 1), ('refused', 21)):
             return
         kind, answer = self.rust.ask(*job[:5], job.flag)
@@ -529,17 +483,18 @@ class Beside:
 
 def other_jobs(seed, count):
     """made and damaged jobs that are not on the list"""
-    n = count // 6
+    n = count // 7
     return [*made_jobs(seed, n), *damaged_jobs(n, seed + 1), *symbol_jobs.tangled_jobs(n, seed + 2, 9), *symbol_jobs.damaged_tables(n, seed + 3),
-            *carry_jobs.made_jobs(seed + 4, n), *carry_jobs.damaged_jobs(count - 5 * n, seed + 5)]
+            *carry_jobs.made_jobs(seed + 4, n), *laid_out_jobs(n, seed + 6), *carry_jobs.damaged_jobs(count - 6 * n, seed + 5)]
 
 
 def compare(seed, count):
+    """holds the program's answers to other jobs against the model's, those against the Rust's, and each merged object against demand 3; whether something differs"""
     jobs = other_jobs(seed, count)
     with tempfile.NamedTemporaryFile() as f:
         f.write(b''.join(map(packed, jobs)))
         f.flush()
-        out = subprocess.run([os.path.join(TOP, 'target', 'bin', 'prog_splice_jobs'), f.name], stdout=subprocess.PIPE, check=True).stdout
+        out = subprocess.run([PROGRAM, f.name], stdout=subprocess.PIPE, check=True).stdout
     beside, at, accepted = Beside(), 0, 0
     for k, job in enumerate(jobs):
         got = expected(job)
@@ -551,85 +506,9 @@ def compare(seed, count):
         beside.hold(f'job {k} of seed {seed}', job, got)
     if out[at:] != b'job %d is not there\n' % len(jobs):
         sys.exit(f'behind the last job of seed {seed} the program prints {out[at:at + 200]!r}')
-    print(f'{len(jobs)} jobs: {len(jobs) - accepted} refusals and {accepted} results as the model has them')
+    print(f'{len(jobs)} jobs: {len(jobs) - accepted} refusals and {accepted} merged objects as the model has them')
     beside.print()
     return beside.wrong != 0 or 'merged alike' not in beside.counts
-
-
-def grown(blocks, dummies, table=8):
-    """a job of that many blocks, each with two .text words, that many late words and a jump table"""
-    chance = random.Random(blocks)
-    size, late = 8 * blocks, blocks * (4 * dummies + table)
-    labels = [b'_asmpp_text%d' % i for i in range(blocks)]
-    words = [[0xE0000001 + i * dummies + k for k in range(dummies)] for i in range(blocks)]
-    c = {b'.text': bytes(size), b'.rodata': b''.join(struct.pack(f'>{dummies}I', *w) + bytes(table) for w in words), b'.reginfo': bytes(24)}
-    a = {b'.text': chance.randbytes(size), b'.late_rodata': bytes(8) + chance.randbytes(late), b'.reginfo': bytes(24)}
-    ends = [(label + end, b'.text', at) for i, label in enumerate(labels) for end, at in ((b'_asm_start', 8 * i), (b'_asm_end', 8 * i + 8))]
-    ends += [(LATE_LABELS[0], b'.late_rodata', 8), (LATE_LABELS[1], b'.late_rodata', 8 + late)]
-    file = b''.join(draft_jobs.block(desc=b'grown', text=b'%s 8 0' % label, dummies=[b'%08x' % x for x in w], jtbl=table) for label, w in zip(labels, words))
-    return symbol_jobs.Job(symbol_jobs.made(c, [(label, b'.text', 8 * i) for i, label in enumerate(labels)]), symbol_jobs.made(a, ends), file)
-
-
-def symbols_of(count, who, length):
-    """that many symbols of C (0) or A (1): some are local, some are defined in this object or in the other, some have names that the other has not"""
-    name = lambda letter, k: b'%c%04d' % (letter, k) + b'x' * (length - 5)  # noqa: E731
-    local = [symbol_jobs.Sym(name(65 + who, k), b'.text', 4 * k, 0) for k in range(count // 4)]
-    shared = [symbol_jobs.Sym(name(68, k), 0 if k % 2 == who else b'.data', 4 * k) for k in range(count // 2)]
-    return local + shared + [symbol_jobs.Sym(name(70 + who, k), b'.data', k) for k in range(count - len(local) - len(shared))]
-
-
-def grown_symbols(count, statics, length=5):
-    """a job of that many symbols in each object, each of A's used by a relocation, and that many statics, counted"""
-    has = {b'.text': bytes(16), b'.data': bytes(16)}
-    table = symbol_jobs.table_of(b'.rel.text', range(1, count + 1))
-    files = [statics_jobs.scoped(*[statics_jobs.entry(statics_jobs.STATIC, statics_jobs.DATA, 0, k) for k in range(statics)])]
-    c = {**has, b'.mdebug': lambda at: statics_jobs.debug_section(at, files)} if statics else has
-    assembled = symbol_jobs.made({**has, b'.rel.text': table}, symbols_of(count, 1, length), 1 + count // 4)
-    return symbol_jobs.Job(symbol_jobs.made(c, symbols_of(count, 0, length)), assembled, b'', mode=1 if statics else 0)
-
-
-def one_hash(doubles=12):
-    """a job whose names have one sum in base 31, by which an index of names may go"""
-    names = [b''.join((b'Aa', b'BB')[k >> i & 1] for i in range(doubles)) for k in range((1 << doubles) - 1)]
-    return symbol_jobs.Job(symbol_jobs.made({b'.data': bytes(16)}, [symbol_jobs.Sym(name, b'.data', k) for k, name in enumerate(names)]), symbol_jobs.made({}, ()), b'')
-
-
-def grown_jobs():
-    """jobs that grow, and what they have"""
-    for blocks, dummies in ((10, 3), (125, 30), (250, 30), (500, 30), (1000, 30), (1000, 4), (1000, 8), (1000, 16)):
-        yield f'{blocks} blocks with {blocks * dummies} late words', grown(blocks, dummies)
-    for count, statics in ((10, 0), (1000, 0), (2000, 0), (4000, 0), (4095, 0), (10, 1024), (10, 2048), (10, 4096), (4095, 4096)):
-        yield f'{count} symbols in each object and {statics} statics', grown_symbols(count, statics)
-    yield '4095 symbols with names of 100 bytes in each object and 4096 statics', grown_symbols(4095, 4096, 100)
-    yield '4095 symbols of one hash in C', one_hash()
-
-
-def seconds(run, times):
-    """the median of some runs"""
-    taken = []
-    for _ in range(times):
-        start = time.perf_counter()
-        run()
-        taken.append(time.perf_counter() - start)
-    return sorted(taken)[times // 2]
-
-
-def speed(copies=20, times=5):
-    """the program's time for a job is that of a list of copies, less that of a list with none; the Rust's is that of a whole merge"""
-    rust, program = Rust(), os.path.join(TOP, 'target', 'bin', 'prog_splice_jobs')
-    print('what a job has, bytes: microseconds of the program, of the Rust')
-    with tempfile.NamedTemporaryFile() as none, tempfile.NamedTemporaryFile() as f:
-        run = lambda name: subprocess.run([program, name], stdout=subprocess.DEVNULL, check=True)  # noqa: E731
-        for words, job in grown_jobs():
-            if result_of(rust.merged(*job[:5])) != expected(job)[1]:
-                sys.exit('the Rust has another result')
-            f.seek(0)
-            f.truncate()
-            f.write(packed(job) * copies)
-            f.flush()
-            ours = (seconds(lambda: run(f.name), times) - seconds(lambda: run(none.name), times)) / copies
-            theirs = seconds(lambda: rust.ask(*job[:5]), times)
-            print(f'{words}, {sum(map(len, job[:3]))}: {1e6 * ours:.0f}, {1e6 * theirs:.0f}', flush=True)
 
 
 def number_of(got):
@@ -651,12 +530,10 @@ def listed_jobs():
     """the jobs of the recorded list"""
     tangled, damaged = symbol_jobs.tangled_jobs(400, 5), symbol_jobs.damaged_tables(400, 6)
     return [*made_jobs(1, 5 * len(VARIATIONS)), *damaged_jobs(60, 2), *real_splices(), *limit_jobs(), *symbol_jobs.aimed_jobs(), *some(tangled, 3), *some(damaged, 2),
-            *carry_jobs.made_jobs(7, 3 * len(carry_jobs.VARIATIONS))]
+            *carry_jobs.made_jobs(7, 3 * len(carry_jobs.VARIATIONS)), *laid_out_jobs(8 * len(write_jobs.KINDS), 8)]
 
 
 def main():
-    if sys.argv[1:] == ['speed']:
-        return speed()
     if len(sys.argv) == 3:
         sys.exit(compare(int(sys.argv[1]), int(sys.argv[2])))
     jobs, beside = listed_jobs(), Beside() if os.path.exists(real_jobs.ORACLE) else None
