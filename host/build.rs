@@ -4,6 +4,8 @@ use std::{env, path::Path};
 
 const VARIABLE: &str = "DAPHULLE_LIB";
 const DEFAULT: &str = "../target/staticlib";
+/// The crate that exports both calls.
+const LIBRARY: &str = "daphulle";
 
 fn main() {
     println!("cargo::rerun-if-env-changed={VARIABLE}");
@@ -11,18 +13,18 @@ fn main() {
     // A relative folder is meant from this package; an absolute one replaces it in `join`.
     let package = env::var("CARGO_MANIFEST_DIR").expect("cargo sets CARGO_MANIFEST_DIR");
     let folder = Path::new(&package).join(folder);
-    let archive = folder.join("libdraft_call.a");
+    let archive = folder.join(format!("lib{LIBRARY}.a"));
     println!("cargo::rerun-if-changed={}", archive.display());
     if !archive.is_file() {
         println!(
-            "cargo::error={} is not there. Run `rt staticlib draft_call` at the top of the \
-             repository, or set {VARIABLE} to the folder that holds libdraft_call.a.",
+            "cargo::error={} is not there. Run `rt staticlib {LIBRARY}` at the top of the \
+             repository, or set {VARIABLE} to the folder that holds lib{LIBRARY}.a.",
             archive.display()
         );
         return;
     }
     println!("cargo::rustc-link-search=native={}", folder.display());
-    println!("cargo::rustc-link-lib=static=draft_call");
+    println!("cargo::rustc-link-lib=static={LIBRARY}");
     // The tests link a C program with the same file.
     println!("cargo::rustc-env=DAPHULLE_ARCHIVE={}", archive.display());
 }

@@ -1,5 +1,6 @@
 //! The command line.
 
+use daphulle::ConvertStatics;
 use std::{
     ffi::{OsStr, OsString},
     os::unix::ffi::OsStrExt,
@@ -10,19 +11,56 @@ pub enum Request {
     Help,
     Version,
     Draft(Draft),
+    Merge(Merge),
+    /// The usual prelude, into this file.
+    Prelude(OsString),
 }
 
 /// Names of files; `-` is standard input or output.
 #[derive(Debug, PartialEq)]
 pub struct Draft {
     pub compiled: OsString,
-    pub prelude: OsString,
+    /// Where it is not given, it is the usual one.
+    pub prelude: Option<OsString>,
     pub blocks: OsString,
+    /// Whether notes are errors.
+    pub strict: bool,
     pub output: OsString,
 }
 
-/// The options that have a value.
-const OPTIONS: [&str; 3] = ["--prelude", "--blocks", "-o"];
+/// Names of files, and settings.
+#[derive(Debug, PartialEq)]
+pub struct Merge {
+    pub compiled: OsString,
+    pub assembled: OsString,
+    pub blocks: OsString,
+    /// Where it is not given, it is C as given.
+    pub path: Option<OsString>,
+    pub drop_mdebug_gptab: bool,
+    pub convert_statics: ConvertStatics,
+    /// Whether notes are errors.
+    pub strict: bool,
+    pub output: OsString,
+}
+
+/// The options, and whether they have a value.
+const OPTIONS: [(&str, bool); 7] = [
+    ("--prelude", true),
+    ("--blocks", true),
+    ("--path", true),
+    ("--drop-mdebug-gptab", false),
+    ("--convert-statics", true),
+    ("--strict", false),
+    ("-o", true),
+];
+
+/// asm-processor's names of the modes.
+const MODES: [(&str, ConvertStatics); 4] = [
+    ("no", ConvertStatics::No),
+    ("local", ConvertStatics::Local),
+    ("global", ConvertStatics::Global),
+    ("global-with-filename", ConvertStatics::GlobalWithFilename),
+];
 
 /// What the words ask for, or what is wrong with them.
 pub fn parse(words: impl Iterator<Item = OsString>) -> Result<Request, String> {
@@ -43,31 +81,77 @@ pub fn parse(words: impl Iterator<Item = OsString>) -> Result<Request, String> {
         }
     }
     let mut operands = operands.into_iter();
-    match operands.next() {
-        None => Err("no command is given".into()),
-        Some(command) if command == "draft" => draft(operands, options).map(Request::Draft),
-        Some(other) => Err(format!("there is no command {other:?}")),
-    }
-}
-
-fn draft(
-    mut operands: impl Iterator<Item = OsString>,
-    mut options: Options,
-) -> Result<Draft, String> {
-    let draft = Draft {
-        compiled: operands.next().ok_or("C is missing")?,
-        prelude: options.take("--prelude")?,
-        blocks: options.take("--blocks")?,
-        output: options.take("-o")?,
+    let Some(command) = operands.next() else {
+        return Err("no command is given".into());
+    };
+    let request = match command.as_bytes() {
+        b"draft" => Request::Draft(draft(&mut operands, &mut options)?),
+        b"merge" => Request::Merge(merge(&mut operands, &mut options)?),
+        b"prelude" => Request::Prelude(options.take("-o").unwrap_or_else(|| "-".into())),
+        _ => return Err(format!("there is no command {command:?}")),
     };
     if let Some(word) = operands.next() {
         return Err(format!("{word:?} is one word too many"));
     }
-    let inputs = [&draft.compiled, &draft.prelude, &draft.blocks];
-    match inputs.iter().filter(|name| **name == "-").count() {
-        0 | 1 => Ok(draft),
+    if let Some((option, _)) = options.0.first() {
+        return Err(format!("{} has no option {option}", command.display()));
+    }
+    let inputs = match &request {
+        Request::Draft(draft) => [
+            Some(&draft.compiled),
+            draft.prelude.as_ref(),
+            Some(&draft.blocks),
+        ],
+        Request::Merge(merge) => [&merge.compiled, &merge.assembled, &merge.blocks].map(Some),
+        Request::Help | Request::Version | Request::Prelude(_) => return Ok(request),
+    };
+    match inputs.iter().flatten().filter(|name| **name == "-").count() {
+        0 | 1 => Ok(request),
         _ => Err("standard input can be one file only".into()),
     }
+}
+
+fn draft(
+    operands: &mut impl Iterator<Item = OsString>,
+    options: &mut Options,
+) -> Result<Draft, String> {
+    Ok(Draft {
+        compiled: operands.next().ok_or("C is missing")?,
+        prelude: options.take("--prelude"),
+        blocks: options.needed("--blocks")?,
+        strict: options.take("--strict").is_some(),
+        output: options.needed("-o")?,
+    })
+}
+
+fn merge(
+    operands: &mut impl Iterator<Item = OsString>,
+    options: &mut Options,
+) -> Result<Merge, String> {
+    Ok(Merge {
+        compiled: operands.next().ok_or("C is missing")?,
+        assembled: operands.next().ok_or("A is missing")?,
+        blocks: options.needed("--blocks")?,
+        path: options.take("--path"),
+        drop_mdebug_gptab: options.take("--drop-mdebug-gptab").is_some(),
+        convert_statics: match options.take("--convert-statics") {
+            None => ConvertStatics::Local,
+            Some(mode) => mode_of(&mode)?,
+        },
+        strict: options.take("--strict").is_some(),
+        output: options.needed("-o")?,
+    })
+}
+
+fn mode_of(word: &OsStr) -> Result<ConvertStatics, String> {
+    let mut modes = MODES.into_iter();
+    let Some((_, mode)) = modes.find(|(name, _)| word == *name) else {
+        let names = MODES.map(|(name, _)| name).join(", ");
+        return Err(format!(
+            "--convert-statics is {word:?}, it must be one of {names}"
+        ));
+    };
+    Ok(mode)
 }
 
 /// The options that are given, each once, with their values.
@@ -83,11 +167,15 @@ impl Options {
     ) -> Result<(), String> {
         let (name, attached) = split(word);
         let mut known = OPTIONS.into_iter();
-        let Some(option) = known.find(|option| option.as_bytes() == name) else {
+        let Some((option, has_value)) = known.find(|(option, _)| option.as_bytes() == name) else {
             return Err(format!("there is no option {word:?}"));
         };
-        let Some(value) = attached.or_else(|| next.next()) else {
-            return Err(format!("{option} has no value"));
+        let value = match (has_value, attached) {
+            (true, attached) => attached
+                .or_else(|| next.next())
+                .ok_or_else(|| format!("{option} has no value"))?,
+            (false, None) => OsString::new(),
+            (false, Some(_)) => return Err(format!("{option} takes no value")),
         };
         if self.0.iter().any(|(name, _)| *name == option) {
             return Err(format!("{option} is given twice"));
@@ -96,11 +184,14 @@ impl Options {
         Ok(())
     }
 
-    fn take(&mut self, option: &str) -> Result<OsString, String> {
-        match self.0.iter().position(|(name, _)| *name == option) {
-            Some(index) => Ok(self.0.swap_remove(index).1),
-            None => Err(format!("{option} is missing")),
-        }
+    fn take(&mut self, option: &str) -> Option<OsString> {
+        let index = self.0.iter().position(|(name, _)| *name == option)?;
+        Some(self.0.remove(index).1)
+    }
+
+    fn needed(&mut self, option: &str) -> Result<OsString, String> {
+        self.take(option)
+            .ok_or_else(|| format!("{option} is missing"))
     }
 }
 
@@ -121,7 +212,8 @@ fn split(word: &OsStr) -> (&[u8], Option<OsString>) {
 
 #[cfg(test)]
 mod tests {
-    use super::{Draft, Request, parse};
+    use super::{Draft, Merge, Request, parse};
+    use daphulle::ConvertStatics;
     use std::{ffi::OsString, os::unix::ffi::OsStringExt};
 
     fn parsed(line: &str) -> Result<Request, String> {
@@ -132,8 +224,9 @@ mod tests {
         let [compiled, prelude, blocks, output] = names.map(Into::into);
         Ok(Request::Draft(Draft {
             compiled,
-            prelude,
+            prelude: Some(prelude),
             blocks,
+            strict: false,
             output,
         }))
     }
@@ -153,6 +246,82 @@ mod tests {
         assert_eq!(parsed(line), draft(["--", "--x=y", "-o", "-"]));
     }
 
+    /// A merge of C, A and B into O.
+    fn merge(path: Option<&str>, drops: bool, mode: ConvertStatics) -> Result<Request, String> {
+        Ok(Request::Merge(Merge {
+            compiled: "C".into(),
+            assembled: "A".into(),
+            blocks: "B".into(),
+            path: path.map(Into::into),
+            drop_mdebug_gptab: drops,
+            convert_statics: mode,
+            strict: false,
+            output: "O".into(),
+        }))
+    }
+
+    #[test]
+    fn settings_of_a_merge() {
+        use ConvertStatics::{Global, GlobalWithFilename, Local, No};
+        for (line, expected) in [
+            ("merge C A --blocks B -o O", merge(None, false, Local)),
+            (
+                "-oO merge --drop-mdebug-gptab C --blocks=B A",
+                merge(None, true, Local),
+            ),
+            (
+                "merge C A --blocks B -o O --path P --convert-statics no",
+                merge(Some("P"), false, No),
+            ),
+            (
+                "merge C A --blocks B -o O --convert-statics=local",
+                merge(None, false, Local),
+            ),
+            (
+                "merge C A --blocks B -o O --convert-statics global",
+                merge(None, false, Global),
+            ),
+            (
+                "merge --convert-statics=global-with-filename --path= C A --blocks B -o O",
+                merge(Some(""), false, GlobalWithFilename),
+            ),
+        ] {
+            assert_eq!(parsed(line), expected, "{line}");
+        }
+    }
+
+    #[test]
+    fn the_usual_prelude() {
+        let Ok(Request::Draft(draft)) = parsed("draft C --blocks B -o O") else {
+            panic!("--prelude may be left out");
+        };
+        assert_eq!((draft.prelude, draft.strict), (None, false));
+        for (line, output) in [
+            ("prelude", "-"),
+            ("prelude -o -", "-"),
+            ("prelude -oO", "O"),
+            ("-o O prelude", "O"),
+        ] {
+            assert_eq!(parsed(line), Ok(Request::Prelude(output.into())), "{line}");
+        }
+    }
+
+    #[test]
+    fn strict() {
+        for line in [
+            "draft C --blocks B -o O --strict",
+            "--strict draft --prelude P C --blocks B -o O",
+            "merge C A --blocks B --strict -o O",
+        ] {
+            let is_strict = match parsed(line) {
+                Ok(Request::Draft(draft)) => draft.strict,
+                Ok(Request::Merge(merge)) => merge.strict,
+                _ => false,
+            };
+            assert!(is_strict, "{line}");
+        }
+    }
+
     #[test]
     fn help_and_version() {
         for line in ["--help", "draft --help", "draft C --prelude P --help"] {
@@ -170,7 +339,8 @@ mod tests {
             ("", "no command is given"),
             ("dratf C", "there is no command \"dratf\""),
             ("draft", "C is missing"),
-            ("draft C", "--prelude is missing"),
+            ("draft C", "--blocks is missing"),
+            ("draft C --prelude", "--prelude has no value"),
             ("draft C --prelude P -o O", "--blocks is missing"),
             ("draft C --prelude P --blocks B", "-o is missing"),
             ("draft C --prelude P --blocks", "--blocks has no value"),
@@ -180,6 +350,44 @@ mod tests {
             ("draft C --preludes P", "there is no option \"--preludes\""),
             ("draft C -p P", "there is no option \"-p\""),
             ("draft C --helpp", "there is no option \"--helpp\""),
+            ("merge C", "A is missing"),
+            ("merge C A", "--blocks is missing"),
+            ("merge C A --blocks B", "-o is missing"),
+            (
+                "merge C A --blocks B -o O --convert-statics all",
+                "--convert-statics is \"all\", it must be one of no, local, global, \
+                 global-with-filename",
+            ),
+            (
+                "merge C A --drop-mdebug-gptab=1",
+                "--drop-mdebug-gptab takes no value",
+            ),
+            (
+                "merge --drop-mdebug-gptab --drop-mdebug-gptab",
+                "--drop-mdebug-gptab is given twice",
+            ),
+            ("draft C --strict=1", "--strict takes no value"),
+            ("draft C --strict --strict", "--strict is given twice"),
+            ("prelude P", "\"P\" is one word too many"),
+            ("prelude --strict", "prelude has no option --strict"),
+            ("prelude --blocks B", "prelude has no option --blocks"),
+            (
+                "draft - --blocks - -o O",
+                "standard input can be one file only",
+            ),
+            (
+                "merge C A --blocks B -o O --prelude P",
+                "merge has no option --prelude",
+            ),
+            (
+                "draft C --prelude P --blocks B -o O --path x",
+                "draft has no option --path",
+            ),
+            ("merge C A D --blocks B -o O", "\"D\" is one word too many"),
+            (
+                "merge - - --blocks B -o O",
+                "standard input can be one file only",
+            ),
             (
                 "draft C D --prelude P --blocks B -o O",
                 "\"D\" is one word too many",
@@ -204,6 +412,6 @@ mod tests {
         let Ok(Request::Draft(draft)) = parse(words.into_iter().chain([name])) else {
             panic!("a name of any bytes is taken");
         };
-        assert_eq!(draft.prelude, OsString::from_vec(b"\xff\n".to_vec()));
+        assert_eq!(draft.prelude, Some(OsString::from_vec(b"\xff\n".to_vec())));
     }
 }

@@ -1,4 +1,6 @@
-//! Reads a block file for the words of a refusal. The bytes may be anything.
+//! Reads a block file for the words of a refusal and for notes. The bytes may be anything.
+
+use crate::codes::Code;
 
 /// Blocks of a block file (docs/SIZES.md).
 pub(crate) const BLOCK_LIMIT: usize = 1024;
@@ -117,9 +119,10 @@ pub(crate) fn keys_after(line: Option<&[u8]>) -> Option<&'static [Key]> {
 }
 
 /// A line `text=` to `bss=` of a block that is not empty.
+#[derive(Clone, Copy)]
 pub(crate) struct Span<'a> {
     pub key: &'static str,
-    pub section: &'static str,
+    pub code: Code,
     pub label: &'a [u8],
     pub size: u32,
     pub align8: u32,
@@ -129,14 +132,17 @@ pub(crate) struct Span<'a> {
 pub(crate) struct Block<'a> {
     pub desc: &'a [u8],
     pub spans: Vec<Span<'a>>,
+    pub dummies: Vec<[u8; 4]>,
+    /// The bytes of its jump table.
+    pub jump_table: u32,
 }
 
 /// The four lines of a block that have a place, with their sections.
-const SPANS: [(&str, &str); 4] = [
-    ("text=", ".text"),
-    ("data=", ".data"),
-    ("rodata=", ".rodata"),
-    ("bss=", ".bss"),
+const SPANS: [(&str, Code); 4] = [
+    ("text=", Code::Text),
+    ("data=", Code::Data),
+    ("rodata=", Code::Rodata),
+    ("bss=", Code::Bss),
 ];
 
 /// The blocks of a well-formed file; of another one, what looks like blocks.
@@ -147,10 +153,17 @@ pub(crate) fn blocks(file: &[u8]) -> Vec<Block<'_>> {
             blocks.push(Block {
                 desc,
                 spans: vec![],
+                dummies: vec![],
+                jump_table: 0,
             });
         }
-        if let (Some(block), Some(span)) = (blocks.last_mut(), span(line)) {
-            block.spans.push(span);
+        let Some(block) = blocks.last_mut() else {
+            continue;
+        };
+        block.spans.extend(span(line));
+        block.dummies.extend(dummy(line));
+        if let Some(value) = line.strip_prefix(b"jtbl=") {
+            block.jump_table = number(value, NUMBER_LIMIT).unwrap_or(0);
         }
     }
     blocks
@@ -158,15 +171,22 @@ pub(crate) fn blocks(file: &[u8]) -> Vec<Block<'_>> {
 
 fn span(line: &[u8]) -> Option<Span<'_>> {
     let mut spans = SPANS.into_iter();
-    let (key, section) = spans.find(|(key, _)| line.starts_with(key.as_bytes()))?;
+    let (key, code) = spans.find(|(key, _)| line.starts_with(key.as_bytes()))?;
     let (label, size, align8) = span_parts(line.get(key.len()..)?)?;
     Some(Span {
         key,
-        section,
+        code,
         label,
         size,
         align8,
     })
+}
+
+/// The four bytes of a line `dummy=`.
+fn dummy(line: &[u8]) -> Option<[u8; 4]> {
+    let digits = line.strip_prefix(b"dummy=")?;
+    let word = u32::from_str_radix(str::from_utf8(digits).ok()?, 16).ok()?;
+    (DUMMY.is_sound)(digits).then(|| word.to_be_bytes())
 }
 
 /// `label size align8`.
@@ -212,7 +232,9 @@ mod tests {
 
     #[test]
     fn blocks_have_their_spans() {
-        let file = b"desc=f\ntext=t 8 4\ndata=\nbss=b 1 0\nasm=text=x 1 1\nend=\ndesc=\nend=\n";
+        let file =
+            b"desc=f\ntext=t 8 4\ndata=\nbss=b 1 0\ndummy=e0123456\njtbl=8\nasm=text=x 1 1\nend=\n\
+                     desc=\nend=\n";
         let blocks = blocks(file);
         let [f, rest] = &blocks[..] else {
             panic!("two blocks");
@@ -220,6 +242,10 @@ mod tests {
         let read = |span: &Span| (span.key, span.label.to_vec(), span.size, span.align8);
         let spans: Vec<_> = f.spans.iter().map(read).collect();
         assert_eq!(f.desc, b"f");
+        assert_eq!(
+            (&f.dummies[..], f.jump_table),
+            (&[[0xe0, 0x12, 0x34, 0x56]][..], 8)
+        );
         assert_eq!(
             spans,
             [

@@ -1,15 +1,23 @@
-//! The exported call on slices: the one place with `unsafe`.
+//! The exported calls on slices: the one place with `unsafe`.
 
 #![allow(unsafe_code)]
 
-/// The largest compiled object, prelude or block file, in bytes (docs/SIZES.md).
+/// The largest compiled or assembled object, prelude or block file, in bytes (docs/SIZES.md).
 pub const FILE_LIMIT: usize = 1_048_576;
 
-/// The least length of the working buffer `table` (docs/SIZES.md).
+/// The least lengths of a draft's working buffers `table` and `places` (docs/SIZES.md).
 pub const BLOCK_TABLE: usize = 49_152;
-
-/// The least length of the working buffer `places` (docs/SIZES.md).
 pub const PLACE_TABLE: usize = 32_768;
+
+/// The longest path of a merge, in bytes (docs/SIZES.md).
+pub const PATH_LIMIT: usize = 255;
+
+/// The least lengths of a merge's working buffers `table`, `places`, `steps` and `index`
+/// (docs/SIZES.md).
+pub const BLOCK_BUFFER: usize = 245_760;
+pub const PLACE_BUFFER: usize = 81_920;
+pub const STEP_BUFFER: usize = 459_856;
+pub const INDEX_BUFFER: usize = 114_688;
 
 /// What a call gives back, as numbers. Accepted: number, object and place are 0. Refused: the
 /// length is 0, and the others are those of document 01's table.
@@ -39,6 +47,29 @@ mod library {
             table_length: usize,
             places: *mut u8,
             places_length: usize,
+        ) -> Outcome;
+
+        pub fn merge(
+            compiled: *const u8,
+            compiled_length: usize,
+            assembled: *const u8,
+            assembled_length: usize,
+            blocks: *const u8,
+            blocks_length: usize,
+            path: *const u8,
+            path_length: usize,
+            flag: u32,
+            mode: u32,
+            out: *mut u8,
+            out_length: usize,
+            table: *mut u8,
+            table_length: usize,
+            places: *mut u8,
+            places_length: usize,
+            steps: *mut u8,
+            steps_length: usize,
+            index: *mut u8,
+            index_length: usize,
         ) -> Outcome;
     }
 }
@@ -72,6 +103,67 @@ pub fn draft_into(
             table.len(),
             places.as_mut_ptr(),
             places.len(),
+        )
+    }
+}
+
+/// What a merge is made of, as the exported call takes it: any bytes, any numbers.
+#[derive(Clone, Copy)]
+pub struct MergeInputs<'a> {
+    pub compiled: &'a [u8],
+    pub assembled: &'a [u8],
+    pub blocks: &'a [u8],
+    pub path: &'a [u8],
+    /// 1 drops trailing debug and gptab sections; 0 does not.
+    pub flag: u32,
+    /// 0 no, 1 local, 2 global, 3 global with filename.
+    pub mode: u32,
+}
+
+/// The output of a merge and its working buffers.
+pub struct MergeBuffers<'a> {
+    pub out: &'a mut [u8],
+    pub table: &'a mut [u8],
+    pub places: &'a mut [u8],
+    pub steps: &'a mut [u8],
+    pub index: &'a mut [u8],
+}
+
+/// Calls the proved merge. Every input, every number and every length of a buffer has an answer,
+/// and the buffers may hold anything. On return the working buffers are zeros, and so is `out`
+/// past the length that is given back.
+pub fn merge_into(inputs: &MergeInputs, buffers: MergeBuffers) -> Outcome {
+    let MergeBuffers {
+        out,
+        table,
+        places,
+        steps,
+        index,
+    } = buffers;
+    // SAFETY: as for `draft`. The five buffers are `&mut`, so that none shares a byte with another
+    // or with an input.
+    unsafe {
+        library::merge(
+            inputs.compiled.as_ptr(),
+            inputs.compiled.len(),
+            inputs.assembled.as_ptr(),
+            inputs.assembled.len(),
+            inputs.blocks.as_ptr(),
+            inputs.blocks.len(),
+            inputs.path.as_ptr(),
+            inputs.path.len(),
+            inputs.flag,
+            inputs.mode,
+            out.as_mut_ptr(),
+            out.len(),
+            table.as_mut_ptr(),
+            table.len(),
+            places.as_mut_ptr(),
+            places.len(),
+            steps.as_mut_ptr(),
+            steps.len(),
+            index.as_mut_ptr(),
+            index.len(),
         )
     }
 }

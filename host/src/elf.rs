@@ -1,6 +1,7 @@
-//! Reads an object for the words of a refusal. The bytes may be anything: what cannot be read is
-//! `None`. Names are the gABI's; fields are big-endian, as document 01 asks.
+//! Reads an object for the words of a refusal and for notes. The bytes may be anything: what cannot
+//! be read is `None`. Names are the gABI's; fields are big-endian, as document 01 asks.
 
+use std::collections::{HashMap, HashSet};
 use std::ffi::CStr;
 
 pub(crate) const HEADER_SIZE: usize = 52;
@@ -14,9 +15,13 @@ pub(crate) const SHT_STRTAB: u32 = 3;
 pub(crate) const SHT_RELA: u32 = 4;
 pub(crate) const SHT_NOBITS: u32 = 8;
 pub(crate) const SHT_REL: u32 = 9;
+pub(crate) const SHT_MIPS_GPTAB: u32 = 0x7000_0003;
+pub(crate) const SHT_MIPS_DEBUG: u32 = 0x7000_0005;
 pub(crate) const SHT_MIPS_REGINFO: u32 = 0x7000_0006;
 pub(crate) const SHF_LINK_ORDER: u32 = 0x80;
+pub(crate) const SHN_UNDEF: u32 = 0;
 pub(crate) const SHN_LORESERVE: u32 = 0xff00;
+pub(crate) const SHN_ABS: u32 = 0xfff1;
 pub(crate) const SHN_XINDEX: u32 = 0xffff;
 
 const E_SHOFF: usize = 32;
@@ -46,6 +51,15 @@ pub(crate) fn string(table: &[u8], at: u32) -> Option<&[u8]> {
     Some(CStr::from_bytes_until_nul(rest).ok()?.to_bytes())
 }
 
+/// What a section index that is none says of its symbol.
+pub(crate) fn no_section(st_shndx: u32) -> Option<String> {
+    match st_shndx {
+        SHN_UNDEF => Some("undefined".into()),
+        SHN_ABS => Some("absolute".into()),
+        index => (index >= SHN_LORESERVE).then(|| format!("of reserved index {index:#x}")),
+    }
+}
+
 pub(crate) struct SectionHeader {
     pub sh_name: u32,
     pub sh_type: u32,
@@ -56,6 +70,17 @@ pub(crate) struct SectionHeader {
     pub sh_info: u32,
     pub sh_addralign: u32,
     pub sh_entsize: u32,
+}
+
+impl SectionHeader {
+    /// The bytes of an entry where the section is a relocation table.
+    pub fn relocation_size(&self) -> Option<usize> {
+        match self.sh_type {
+            SHT_REL => Some(8),
+            SHT_RELA => Some(12),
+            _ => None,
+        }
+    }
 }
 
 /// An object, and what people call it.
@@ -137,6 +162,25 @@ impl<'a> ObjectFile<'a> {
         sections.find(|(_, section)| section.sh_type == SHT_SYMTAB)
     }
 
+    /// The relocation tables for a section, with their indices.
+    pub fn tables_of(self, section: usize) -> impl Iterator<Item = (usize, SectionHeader)> {
+        self.sections().filter(move |(_, table)| {
+            table.relocation_size().is_some() && table.sh_info as usize == section
+        })
+    }
+
+    /// The entries of a relocation table.
+    pub fn relocations(self, table: &SectionHeader) -> impl Iterator<Item = Relocation> + use<'a> {
+        let entries = self.contents(table).unwrap_or_default();
+        let size = table.relocation_size().unwrap_or(entries.len().max(1));
+        entries.chunks_exact(size).filter_map(|entry| {
+            Some(Relocation {
+                offset: word(entry, 0)?,
+                symbol: (word(entry, 4)? >> 8) as usize,
+            })
+        })
+    }
+
     pub fn symbols(self) -> Option<Symbols<'a>> {
         let (_, table) = self.symbol_table()?;
         Some(Symbols {
@@ -152,13 +196,23 @@ pub(crate) struct Symbols<'a> {
     strings: &'a [u8],
 }
 
+#[derive(Clone, Copy)]
 pub(crate) struct Symbol<'a> {
     /// Its 16 bytes.
     pub entry: &'a [u8],
     /// `None` where the name has no zero end.
     pub name: Option<&'a [u8]>,
     pub st_value: u32,
+    pub st_size: u32,
     pub st_shndx: u32,
+    /// By its binding.
+    pub is_local: bool,
+}
+
+/// What the words need of a relocation.
+pub(crate) struct Relocation {
+    pub offset: u32,
+    pub symbol: usize,
 }
 
 impl<'a> Symbols<'a> {
@@ -169,8 +223,27 @@ impl<'a> Symbols<'a> {
                 entry,
                 name: string(self.strings, word(entry, 0)?),
                 st_value: word(entry, 4)?,
+                st_size: word(entry, 8)?,
                 st_shndx: half(entry, 14)?,
+                is_local: byte(entry, 12)? >> 4 == 0,
             })
         })
+    }
+
+    /// The first symbol of each label that has one; `None` where a name has no zero end. Names of
+    /// other lengths than the labels have are not looked at, as they may share one long string.
+    pub fn first_of<'l>(
+        &self,
+        labels: impl Iterator<Item = &'l [u8]>,
+    ) -> Option<HashMap<&'a [u8], Symbol<'a>>> {
+        let lengths: HashSet<_> = labels.map(<[u8]>::len).collect();
+        let mut first = HashMap::new();
+        for symbol in self.iter() {
+            let name = symbol.name?;
+            if lengths.contains(&name.len()) {
+                first.entry(name).or_insert(symbol);
+            }
+        }
+        Some(first)
     }
 }

@@ -33,9 +33,7 @@ macro_rules! codes {
 }
 
 codes! {
-    /// The rows of document 01's table that a call can give so far. 10 to 20 are the merge's alone
-    /// and come with it: until then no value stands for them, so no words can be said of them, and
-    /// once they are here `words` does not compile before each has its own.
+    /// The rows of document 01's table. The draft gives 1 to 9 and 21, the merge all.
     Number {
         Limits = 1,
         FileHeader = 2,
@@ -46,6 +44,17 @@ codes! {
         BlockFile = 7,
         BlockPlace = 8,
         BlockAlignment = 9,
+        Clash = 10,
+        MissingSection = 11,
+        BlockLabels = 12,
+        LateLabels = 13,
+        LateStep = 14,
+        SymbolSection = 15,
+        LateSymbol = 16,
+        Statics = 17,
+        LooseSymbol = 18,
+        NameTwice = 19,
+        LostEntry = 20,
         OutputRoom = 21,
     }
 }
@@ -58,6 +67,17 @@ codes! {
         Compiled = 1,
         /// A, the assembled object.
         Assembled = 2,
+    }
+}
+
+codes! {
+    /// What a merge makes of the statics that a debug section names: asm-processor's modes.
+    ConvertStatics {
+        No = 0,
+        Local = 1,
+        Global = 2,
+        /// Global, with the path and a colon before each name.
+        GlobalWithFilename = 3,
     }
 }
 
@@ -97,8 +117,8 @@ impl fmt::Display for Broken {
         } = self.0;
         write!(
             f,
-            "the linked libdraft_call.a is not the proved one: it answered length {length}, \
-             number {number}, object {object}, place {place}"
+            "the linked library is not the proved one: it answered length {length}, number \
+             {number}, object {object}, place {place}"
         )
     }
 }
@@ -172,9 +192,9 @@ mod tests {
     }
 
     #[test]
-    fn the_numbers_are_those_of_a_draft() {
+    fn the_numbers_are_those_of_the_table() {
         let known = (0..1000).filter(|&code| Number::of(code).is_some());
-        assert!(known.eq([1, 2, 3, 4, 5, 6, 7, 8, 9, 21]));
+        assert!(known.eq(1..=21));
         for &number in Number::ALL {
             assert_eq!(Number::of(number.code()), Some(number));
         }
@@ -204,8 +224,6 @@ mod tests {
             outcome(0, 0, 0, 1),
             outcome(1, 2, 1, 0),
             outcome(0, 2, 3, 0),
-            outcome(0, 10, 1, 0),
-            outcome(0, 20, 1, 0),
             outcome(0, 22, 1, 0),
             outcome(0, 21, 0, 6),
             outcome(0, u32::MAX, 0, 0),

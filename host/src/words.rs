@@ -4,35 +4,56 @@
 //! the words are document 01's general clause, never a guess.
 
 mod block_file;
+mod carrying;
 mod file_header;
+mod job;
+mod late_words;
+mod line_up;
 mod places;
 mod relocations;
 mod sections;
+mod statics;
+mod symbol_list;
 mod symbols;
+mod taken_symbols;
 
-use crate::call::FILE_LIMIT;
+use crate::call::{FILE_LIMIT, PATH_LIMIT};
 use crate::elf::ObjectFile;
 use crate::refusal::{Number, Object};
+use crate::{Asked, Draft, Merge};
+use job::Job;
 
-/// What a draft was asked for.
+/// What a call was asked for, and the most bytes that its output may have.
 #[derive(Clone, Copy)]
 pub struct Inputs<'a> {
-    pub compiled: &'a [u8],
-    pub prelude: &'a [u8],
-    pub blocks: &'a [u8],
-    /// The most bytes that the output may have.
+    pub asked: Asked<'a>,
     pub room: usize,
 }
 
 impl<'a> Inputs<'a> {
+    fn blocks(&self) -> &'a [u8] {
+        match self.asked {
+            Asked::Draft(Draft { blocks, .. }) | Asked::Merge(Merge { blocks, .. }) => blocks,
+        }
+    }
+
+    /// C and A; a draft has no assembled object.
+    fn objects(&self) -> (ObjectFile<'a>, Option<ObjectFile<'a>>) {
+        let (compiled, assembled) = match self.asked {
+            Asked::Draft(draft) => (draft.compiled, None),
+            Asked::Merge(merge) => (merge.compiled, Some(merge.assembled)),
+        };
+        let file = |title, bytes| ObjectFile { title, bytes };
+        let assembled = assembled.map(|bytes| file("the assembled object", bytes));
+        (file("the compiled object", compiled), assembled)
+    }
+
     fn object(&self, object: Object) -> Option<ObjectFile<'a>> {
+        let (compiled, assembled) = self.objects();
         match object {
-            Object::Compiled => Some(ObjectFile {
-                title: "the compiled object",
-                bytes: self.compiled,
-            }),
-            // a draft has no assembled object
-            Object::None | Object::Assembled => None,
+            Object::None => None,
+            Object::Compiled => Some(compiled),
+            Object::Assembled => assembled,
         }
     }
 }
@@ -45,6 +66,7 @@ pub fn words(inputs: &Inputs, number: Number, object: Object, place: u64) -> Str
 /// What the inputs show, if they show the fault.
 fn told(inputs: &Inputs, number: Number, object: Object, place: u64) -> Option<String> {
     let at = usize::try_from(place).ok()?;
+    let job = || Job::read(inputs);
     match number {
         Number::Limits => limits(inputs),
         Number::FileHeader => file_header::words(inputs.object(object)?, at),
@@ -52,11 +74,22 @@ fn told(inputs: &Inputs, number: Number, object: Object, place: u64) -> Option<S
         Number::SectionName => sections::name_words(inputs.object(object)?, at),
         Number::SymbolTable => symbols::words(inputs.object(object)?, at),
         Number::RelocationTable => relocations::words(inputs.object(object)?, at),
-        Number::BlockFile => block_file::words(inputs.blocks, at),
+        Number::BlockFile => block_file::words(inputs.blocks(), at),
         Number::BlockPlace | Number::BlockAlignment => {
-            let fault = places::first_fault(inputs.object(object)?, inputs.blocks)?;
+            let fault = places::first_fault(inputs.object(object)?, inputs.blocks())?;
             ((fault.number, fault.block) == (number, at)).then_some(fault.words)
         }
+        Number::Clash => carrying::clash_words(&job()?, at),
+        Number::MissingSection => line_up::missing_words(&job()?, object, at),
+        Number::BlockLabels => line_up::label_words(&job()?, at),
+        Number::LateLabels => line_up::late_label_words(&job()?, at),
+        Number::LateStep => late_words::words(&job()?, at),
+        Number::SymbolSection => taken_symbols::section_words(&job()?, at),
+        Number::LateSymbol => taken_symbols::late_value_words(&job()?, at),
+        Number::Statics => statics::words(&job()?, at),
+        Number::LooseSymbol => symbol_list::loose_words(&job()?, at),
+        Number::NameTwice => symbol_list::twice_words(&job()?, at),
+        Number::LostEntry => carrying::lost_words(&job()?, object, at),
         Number::OutputRoom => {
             let room = inputs.room;
             let result = format!("the result has {place} bytes, the output may have {room}");
@@ -65,20 +98,64 @@ fn told(inputs: &Inputs, number: Number, object: Object, place: u64) -> Option<S
     }
 }
 
+/// What a second walk over the inputs found, and where.
+struct Fault {
+    place: usize,
+    words: String,
+}
+
+impl Fault {
+    /// Its words, where the library gave the same place.
+    fn told_at(self, place: usize) -> Option<String> {
+        (self.place == place).then_some(self.words)
+    }
+}
+
 fn limits(inputs: &Inputs) -> Option<String> {
-    let files = [
-        ("the compiled object", inputs.compiled),
-        ("the prelude", inputs.prelude),
-        ("the block file", inputs.blocks),
-    ];
-    let (title, _) = files.iter().find(|(_, file)| file.len() > FILE_LIMIT)?;
-    Some(format!("{title} has more than {FILE_LIMIT} bytes"))
+    let (files, path) = match &inputs.asked {
+        Asked::Draft(draft) => {
+            let prelude = ("the prelude", draft.prelude);
+            ([("the compiled object", draft.compiled), prelude], None)
+        }
+        Asked::Merge(merge) => {
+            let assembled = ("the assembled object", merge.assembled);
+            (
+                [("the compiled object", merge.compiled), assembled],
+                Some(merge.path),
+            )
+        }
+    };
+    let mut files = files
+        .into_iter()
+        .chain([("the block file", inputs.blocks())]);
+    if let Some((title, _)) = files.find(|(_, file)| file.len() > FILE_LIMIT) {
+        return Some(format!("{title} has more than {FILE_LIMIT} bytes"));
+    }
+    path_fault(path?)
+}
+
+/// What is wrong with the path of a merge.
+pub fn path_fault(path: &[u8]) -> Option<String> {
+    if path.len() > PATH_LIMIT {
+        let length = path.len();
+        return Some(format!(
+            "the path has {length} bytes, it may have {PATH_LIMIT}"
+        ));
+    }
+    let at = path.iter().position(|byte| !(1..=127).contains(byte))?;
+    let byte = path.get(at)?;
+    Some(format!(
+        "byte {at} of the path is {byte}, it must be from 1 to 127"
+    ))
 }
 
 /// Document 01's clause for a number.
 fn clause(number: Number) -> &'static str {
     match number {
-        Number::Limits => "an input is over its limit, or a working buffer is below its size",
+        Number::Limits => {
+            "an input is over its limit, a setting is unknown, or a working buffer is below its \
+             size"
+        }
         Number::FileHeader => "a file header is not as it must be",
         Number::SectionHeader => "a section count or a section header is not as it must be",
         Number::SectionName => {
@@ -91,19 +168,47 @@ fn clause(number: Number) -> &'static str {
             "a size is 0, or a place is below the end of the block before in that section"
         }
         Number::BlockAlignment => "an align8 is not 0 and not 8 - (place mod 8)",
+        Number::Clash => {
+            "a relocation table of the compiled object cannot be carried, or a dropped section is \
+             referred to"
+        }
+        Number::MissingSection => {
+            "a section is missing, a block passes its end, or a .text place or size is no multiple \
+             of 4"
+        }
+        Number::BlockLabels => {
+            "a block's start or end label is not in the assembled object at the block's place"
+        }
+        Number::LateLabels => "the late labels do not span the late words",
+        Number::LateStep => "a late word or a jump table finds no place",
+        Number::SymbolSection => {
+            "a symbol of the assembled object has no section in the result, or a relocation uses a \
+             name that begins with `_asmpp_`"
+        }
+        Number::LateSymbol => "a symbol of .late_rodata is at no late word",
+        Number::Statics => "the debug section is not as it must be",
+        Number::LooseSymbol => "a symbol is local and undefined, or neither named nor local",
+        Number::NameTwice => "a name is defined at two places",
+        Number::LostEntry => {
+            "a relocation's symbol is not in the result, or its late offset does not move"
+        }
         Number::OutputRoom => "the output is shorter than the result",
     }
 }
 
-/// Bytes of an input in a line of words: printable ASCII between backquotes, the rest escaped,
-/// what is long cut short.
-fn quoted(bytes: &[u8]) -> String {
+/// Bytes of an input in a line of words: printable ASCII, the rest escaped, what is long cut short.
+pub(crate) fn shown(bytes: &[u8]) -> String {
     const LONGEST: usize = 48;
     let (shown, dots) = match bytes.get(..LONGEST) {
         Some(front) if bytes.len() > LONGEST => (front, "..."),
         _ => (bytes, ""),
     };
-    format!("`{}{dots}`", shown.escape_ascii())
+    format!("{}{dots}", shown.escape_ascii())
+}
+
+/// The same between backquotes.
+fn quoted(bytes: &[u8]) -> String {
+    format!("`{}`", shown(bytes))
 }
 
 /// ` (NAME)` behind an index; nothing where there is no name.

@@ -1,44 +1,54 @@
-//! A C program over the header and the library is built and run, and the header is C++ too.
+//! C programs over the header and the library are built and run, and the header is C++ too.
 
 mod common;
 
-use common::{CASE_FILE, DRAFT, Folder};
+use common::{CASE_FILE, DRAFT, FIRMWARE, Folder};
 use daphulle::{
-    Number, Object,
-    call::{BLOCK_TABLE, FILE_LIMIT, Outcome, PLACE_TABLE},
+    ConvertStatics, Number, Object,
+    call::{self, Outcome},
 };
 use std::{
     fmt::Debug,
     fs,
     mem::{offset_of, size_of},
+    path::Path,
     process::Command,
 };
 
 const ARCHIVE: &str = env!("DAPHULLE_ARCHIVE");
 const INCLUDE: &str = concat!(env!("CARGO_MANIFEST_DIR"), "/include");
-const PROGRAM: &str = concat!(env!("CARGO_MANIFEST_DIR"), "/tests/c/draft.c");
+const PROGRAMS: &str = concat!(env!("CARGO_MANIFEST_DIR"), "/tests/c");
 const WARNINGS: [&str; 4] = ["-Wall", "-Wextra", "-Werror", "-pedantic"];
+
+/// Builds a program and runs it on files.
+fn check(program: &str, files: &[&Path]) {
+    let folder = Folder::new();
+    let built = folder.path().join("program");
+    let output = Command::new("cc")
+        .args(["-std=c11", "-I", INCLUDE])
+        .args(WARNINGS)
+        .args([&format!("{PROGRAMS}/{program}"), ARCHIVE, "-o"])
+        .arg(&built)
+        .output()
+        .unwrap();
+    assert!(output.status.success(), "{output:?}");
+    let run = Command::new(&built).args(files).output().unwrap();
+    assert!(run.status.success(), "{run:?}");
+    assert_eq!(run.stdout, b"0 differences\n");
+}
 
 #[test]
 fn a_c_program_drafts() {
     let folder = Folder::new();
-    let (program, text) = (folder.path().join("draft"), folder.path().join("text"));
+    let text = folder.path().join("text");
     fs::write(&text, DRAFT).unwrap();
-    let built = Command::new("cc")
-        .args(["-std=c11", "-I", INCLUDE])
-        .args(WARNINGS)
-        .args([PROGRAM, ARCHIVE, "-o"])
-        .arg(&program)
-        .output()
-        .unwrap();
-    assert!(built.status.success(), "{built:?}");
-    let run = Command::new(&program)
-        .arg(CASE_FILE)
-        .arg(&text)
-        .output()
-        .unwrap();
-    assert!(run.status.success(), "{run:?}");
-    assert_eq!(run.stdout, b"0 differences\n");
+    check("draft.c", &[Path::new(CASE_FILE), &text]);
+}
+
+#[test]
+fn a_c_program_merges() {
+    let files = ["c.o", "a.o", "blocks", "merged.o"].map(|name| Path::new(FIRMWARE).join(name));
+    check("merge.c", &files.each_ref().map(|path| path.as_path()));
 }
 
 /// The names of the header lead to the library's symbols from C++, too.
@@ -48,7 +58,8 @@ fn a_cpp_program_links() {
     let (source, program) = (folder.path().join("link.cpp"), folder.path().join("link"));
     let text = "#include <daphulle.h>\n#include <daphulle.h>\n\
                 int main() {\n    daphulle_outcome r = draft(0, 0, 0, 0, 0, 0, 0, 0, 0, 0, 0, 0);\n    \
-                return r.number == DAPHULLE_LIMITS ? 0 : 1;\n}\n";
+                daphulle_outcome s = merge(0, 0, 0, 0, 0, 0, 0, 0, 0, 0, 0, 0, 0, 0, 0, 0, 0, 0, 0, 0);\n    \
+                return r.number == DAPHULLE_LIMITS && s.number == DAPHULLE_LIMITS ? 0 : 1;\n}\n";
     fs::write(&source, text).unwrap();
     let built = Command::new("c++")
         .args(["-std=c++11", "-I", INCLUDE])
@@ -62,9 +73,9 @@ fn a_cpp_program_links() {
     assert!(Command::new(&program).status().unwrap().success());
 }
 
-/// `FileHeader` as `DAPHULLE_FILE_HEADER`.
-fn constant(value: impl Debug) -> String {
-    let mut name = "DAPHULLE".to_string();
+/// `FileHeader` as `DAPHULLE_FILE_HEADER`; what stands before it begins with a line.
+fn constant(before: &str, value: impl Debug) -> String {
+    let mut name = ["DAPHULLE", before].concat();
     for letter in format!("{value:?}").chars() {
         if letter.is_uppercase() {
             name.push('_');
@@ -78,9 +89,14 @@ fn constant(value: impl Debug) -> String {
 #[test]
 fn the_header_has_the_numbers_of_the_library() {
     let mut equal = vec![
-        ("DAPHULLE_FILE_LIMIT".into(), FILE_LIMIT),
-        ("DAPHULLE_BLOCK_TABLE".into(), BLOCK_TABLE),
-        ("DAPHULLE_PLACE_TABLE".into(), PLACE_TABLE),
+        ("DAPHULLE_FILE_LIMIT".into(), call::FILE_LIMIT),
+        ("DAPHULLE_PATH_LIMIT".into(), call::PATH_LIMIT),
+        ("DAPHULLE_BLOCK_TABLE".into(), call::BLOCK_TABLE),
+        ("DAPHULLE_PLACE_TABLE".into(), call::PLACE_TABLE),
+        ("DAPHULLE_BLOCK_BUFFER".into(), call::BLOCK_BUFFER),
+        ("DAPHULLE_PLACE_BUFFER".into(), call::PLACE_BUFFER),
+        ("DAPHULLE_STEP_BUFFER".into(), call::STEP_BUFFER),
+        ("DAPHULLE_INDEX_BUFFER".into(), call::INDEX_BUFFER),
         (
             "sizeof(struct daphulle_outcome)".into(),
             size_of::<Outcome>(),
@@ -90,16 +106,13 @@ fn the_header_has_the_numbers_of_the_library() {
         ("FIELD(object)".into(), offset_of!(Outcome, object)),
         ("FIELD(place)".into(), offset_of!(Outcome, place)),
     ];
-    equal.extend(
-        Number::ALL
-            .iter()
-            .map(|&n| (constant(n), n.code() as usize)),
-    );
-    equal.extend(
-        Object::ALL
-            .iter()
-            .map(|&o| (constant(o), o.code() as usize)),
-    );
+    let numbers = Number::ALL.iter().map(|&n| (constant("", n), n.code()));
+    let objects = Object::ALL.iter().map(|&o| (constant("", o), o.code()));
+    let modes = ConvertStatics::ALL
+        .iter()
+        .map(|&m| (constant("_STATICS", m), m.code()));
+    let codes = numbers.chain(objects).chain(modes);
+    equal.extend(codes.map(|(name, code)| (name, code as usize)));
     let mut text = String::from(
         "#include <daphulle.h>\n#define FIELD(name) offsetof(struct daphulle_outcome, name)\n",
     );

@@ -1,21 +1,28 @@
-//! The command: files, standard input and output, exit statuses, and what a failing run leaves.
+//! The command on drafts: files, standard input and output, exit statuses, and what a failing run
+//! leaves.
 
 mod common;
 
-use common::{DRAFT, Folder, block, known_case, object};
-use daphulle::{DRAFT_LIMIT, call::FILE_LIMIT};
+use common::{
+    DRAFT, Folder, block,
+    command::{COMMAND, ended, run, run_with},
+    known_case, object,
+};
+use daphulle::{
+    DRAFT_LIMIT, MERGE_LIMIT,
+    call::{FILE_LIMIT, PATH_LIMIT},
+};
 use std::{
     ffi::{OsStr, OsString},
     fs::{self, File, OpenOptions},
-    io::{Read, Write},
+    io::Read,
     os::unix::{
         ffi::OsStrExt,
         fs::{FileTypeExt, MetadataExt, PermissionsExt, symlink},
     },
-    process::{Command, Output, Stdio},
+    process::Command,
 };
 
-const COMMAND: &str = env!("CARGO_BIN_EXE_daphulle");
 const NAMES: [&str; 3] = ["blocks", "c.o", "prelude"];
 const USUAL: [&str; 8] = [
     "draft",
@@ -37,30 +44,6 @@ fn known_folder() -> Folder {
     put("prelude", &case.prelude);
     put("blocks", &case.blocks);
     folder
-}
-
-/// Runs the command in a folder, with bytes on its standard input.
-fn run_with<W: AsRef<OsStr>>(folder: &Folder, words: &[W], input: &[u8]) -> Output {
-    let mut child = Command::new(COMMAND)
-        .args(words)
-        .current_dir(folder.path())
-        .stdin(Stdio::piped())
-        .stdout(Stdio::piped())
-        .stderr(Stdio::piped())
-        .spawn()
-        .unwrap();
-    child.stdin.take().unwrap().write_all(input).unwrap();
-    child.wait_with_output().unwrap()
-}
-
-fn run<W: AsRef<OsStr>>(folder: &Folder, words: &[W]) -> Output {
-    run_with(folder, words, b"")
-}
-
-/// Status, standard output and standard error.
-fn ended(output: &Output) -> (i32, &[u8], &str) {
-    let error = str::from_utf8(&output.stderr).unwrap();
-    (output.status.code().unwrap(), &output.stdout, error)
 }
 
 /// The usual words with one of them changed.
@@ -303,12 +286,13 @@ fn wrong_usage_is_status_2() {
     let folder = known_folder();
     for (words, line) in [
         (vec![], "no command is given"),
-        (vec!["draft", "c.o"], "--prelude is missing"),
+        (vec!["draft", "c.o"], "--blocks is missing"),
         (
             vec!["draft", "c.o", "--other"],
             "there is no option \"--other\"",
         ),
-        (vec!["merge", "c.o"], "there is no command \"merge\""),
+        (vec!["merge", "c.o"], "A is missing"),
+        (vec!["splice", "c.o"], "there is no command \"splice\""),
     ] {
         let line = format!("daphulle: {line} (see daphulle --help)\n");
         assert_eq!(ended(&run(&folder, &words)), (2, &b""[..], &line[..]));
@@ -324,10 +308,13 @@ fn help_fits_one_screen() {
     let text = str::from_utf8(text).unwrap();
     assert_eq!((status, error), (0, ""));
     assert!(text.lines().count() <= 24 && text.lines().all(|line| line.len() <= 80));
-    assert!(text.starts_with("Usage: daphulle draft C --prelude P --blocks B -o OUT\n"));
+    assert!(
+        text.starts_with("Usage: daphulle draft C [--prelude P] --blocks B [--strict] -o OUT\n")
+    );
     assert!(text.contains(&format!(
-        "{FILE_LIMIT} bytes each, the draft {DRAFT_LIMIT}."
+        "{FILE_LIMIT} bytes each, a result {DRAFT_LIMIT}, PATH {PATH_LIMIT}."
     )));
+    assert_eq!(DRAFT_LIMIT, MERGE_LIMIT);
 }
 
 #[test]
@@ -337,15 +324,26 @@ fn the_version() {
     assert_eq!(ended(&run(&folder, &["--version"])), (0, line, ""));
 }
 
-/// The command that the README at the top gives, run there word for word.
+/// The command that the README at the top gives, run there word for word but for the output, which
+/// is the Rust's merge of the same objects.
 #[test]
 fn the_command_of_the_readme() {
     let top = concat!(env!("CARGO_MANIFEST_DIR"), "/..");
     let readme = fs::read_to_string(format!("{top}/README.md")).unwrap();
     let given = readme.split("&& host/target/release/daphulle ").nth(1);
-    let words = given.unwrap().lines().next().unwrap().split(' ');
-    let output = Command::new(COMMAND).args(words).current_dir(top).output();
+    let line = given.unwrap().lines().next().unwrap();
+    let words = line.strip_suffix(" -o merged.o").unwrap().split(' ');
+    let mut command = Command::new(COMMAND);
+    let output = command
+        .args(words)
+        .args(["-o", "-"])
+        .current_dir(top)
+        .output();
     let output = output.unwrap();
-    assert_eq!((output.status.code(), &output.stdout[..]), (Some(0), DRAFT));
+    let merged = include_bytes!("firmware/merged.o");
+    assert_eq!(
+        (output.status.code(), &output.stdout[..]),
+        (Some(0), &merged[..])
+    );
     assert!(output.stderr.is_empty());
 }

@@ -1,9 +1,10 @@
-//! The line of every refusal that a draft can give, on small inputs.
+//! The line of every refusal that a draft can give, on small inputs, and the words of any refusal
+//! that the inputs do not show.
 
 mod common;
 
-use common::{Case, block, known_case, object, patched, section_field, with_field};
-use daphulle::{Error, Inputs, Number, Object, draft, words};
+use common::{Case, block, known_case, known_merge, object, patched, section_field, with_field};
+use daphulle::{Asked, Draft, Error, Inputs, Number, Object, draft, words};
 
 /// Checks the line of each refusal: compiled object, block file, line.
 fn check(refusals: &[(Vec<u8>, &[u8], &str)]) {
@@ -417,21 +418,23 @@ fn words_are_not_made_up() {
         prelude,
         blocks,
     } = known_case();
-    let inputs = Inputs {
+    let merge = known_merge();
+    let draft = Draft {
         compiled: &compiled,
         prelude: &prelude,
         blocks: &blocks,
-        room: usize::MAX,
     };
     let name_clause =
         "e_shstrndx names no string table, or a section name has no zero end or a byte over 127";
     let place_clause =
         "a size is 0, or a place is below the end of the block before in that section";
+    let limits_clause =
+        "an input is over its limit, a setting is unknown, or a working buffer is below its size";
+    let clash_clause = "a relocation table of the compiled object cannot be carried, or a dropped section is referred to";
+    let missing_clause = "a section is missing, a block passes its end, or a .text place or size is no multiple of 4";
+    let section_clause = "a symbol of the assembled object has no section in the result, or a relocation uses a name that begins with `_asmpp_`";
     for (number, clause) in [
-        (
-            Number::Limits,
-            "an input is over its limit, or a working buffer is below its size",
-        ),
+        (Number::Limits, limits_clause),
         (Number::FileHeader, "a file header is not as it must be"),
         (
             Number::SectionHeader,
@@ -449,11 +452,44 @@ fn words_are_not_made_up() {
             Number::BlockAlignment,
             "an align8 is not 0 and not 8 - (place mod 8)",
         ),
+        (Number::Clash, clash_clause),
+        (Number::MissingSection, missing_clause),
+        (
+            Number::BlockLabels,
+            "a block's start or end label is not in the assembled object at the block's place",
+        ),
+        (
+            Number::LateLabels,
+            "the late labels do not span the late words",
+        ),
+        (
+            Number::LateStep,
+            "a late word or a jump table finds no place",
+        ),
+        (Number::SymbolSection, section_clause),
+        (
+            Number::LateSymbol,
+            "a symbol of .late_rodata is at no late word",
+        ),
+        (Number::Statics, "the debug section is not as it must be"),
+        (
+            Number::LooseSymbol,
+            "a symbol is local and undefined, or neither named nor local",
+        ),
+        (Number::NameTwice, "a name is defined at two places"),
+        (
+            Number::LostEntry,
+            "a relocation's symbol is not in the result, or its late offset does not move",
+        ),
         (Number::OutputRoom, "the output is shorter than the result"),
     ] {
-        for &object in Object::ALL {
-            for place in [0, 1, 4, u64::MAX] {
-                assert_eq!(words(&inputs, number, object, place), clause, "{place}");
+        for asked in [Asked::Draft(draft), Asked::Merge(merge.merge())] {
+            let room = usize::MAX;
+            for &object in Object::ALL {
+                for place in [0, 1, 4, 60, u64::MAX] {
+                    let words = words(&Inputs { asked, room }, number, object, place);
+                    assert_eq!(words, clause, "{place}");
+                }
             }
         }
     }

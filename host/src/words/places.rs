@@ -14,39 +14,85 @@ pub(super) struct Fault {
     pub words: String,
 }
 
-/// The first line at fault, in the order of document 01: blocks, their sections, 8 before 9.
-pub(super) fn first_fault(object: ObjectFile, file: &[u8]) -> Option<Fault> {
-    // a place is the value of the first symbol of its label, in any section
-    let mut values = HashMap::new();
-    for symbol in object.symbols()?.iter() {
-        values.entry(symbol.name?).or_insert(symbol.st_value);
-    }
-    // for each section the end of the block before
-    let mut ends = HashMap::new();
-    for (index, block) in blocks(file).iter().enumerate() {
-        for span in &block.spans {
-            let value = values.get(span.label).copied();
-            let end = ends.get(span.section).copied().unwrap_or(0);
-            if let Some((number, fault)) = span_fault(span, value, end) {
-                let words = format!("{}: {fault}", span_title(index, block, span));
-                return Some(Fault {
-                    number,
-                    block: index,
-                    words,
-                });
-            }
-            // an absent label switches off the rest of its block
-            let Some(value) = value else { break };
-            ends.insert(span.section, u64::from(value) + u64::from(span.size));
-        }
-    }
-    None
+/// A line of a block that is taken: its label is in C, and so are those before it.
+#[derive(Clone, Copy)]
+pub(super) struct Taken<'a> {
+    pub block: usize,
+    pub span: Span<'a>,
+    pub place: u32,
 }
 
-fn span_title(index: usize, block: &Block, span: &Span) -> String {
-    let desc = in_brackets(Some(block.desc));
+impl Taken<'_> {
+    pub fn end(&self) -> usize {
+        self.place as usize + self.span.size as usize
+    }
+}
+
+/// The lines that are taken, in order, and the blocks that no absent label switches off.
+pub(super) struct Places<'a> {
+    pub taken: Vec<Taken<'a>>,
+    pub live: Vec<usize>,
+}
+
+/// The first line at fault, in the order of document 01: blocks, their sections, 8 before 9.
+pub(super) fn first_fault(object: ObjectFile, file: &[u8]) -> Option<Fault> {
+    places(object, &blocks(file))?.err()
+}
+
+/// Where the blocks lie in C, or the first line at fault.
+pub(super) fn places<'a>(
+    object: ObjectFile,
+    blocks: &[Block<'a>],
+) -> Option<Result<Places<'a>, Fault>> {
+    // a place is the value of the first symbol of its label, in any section
+    let spans = blocks.iter().flat_map(|block| &block.spans);
+    let symbols = object.symbols()?.first_of(spans.map(|span| span.label))?;
+    // for each section the end of the block before
+    let mut ends = HashMap::new();
+    let mut places = Places {
+        taken: vec![],
+        live: vec![],
+    };
+    for (index, block) in blocks.iter().enumerate() {
+        let mut is_live = true;
+        for span in &block.spans {
+            let value = symbols.get(span.label).map(|symbol| symbol.st_value);
+            let end = ends.get(&span.code).copied().unwrap_or(0);
+            if let Some((number, fault)) = span_fault(span, value, end) {
+                return Some(Err(Fault {
+                    number,
+                    block: index,
+                    words: format!("{}: {fault}", span_title(index, block.desc, span)),
+                }));
+            }
+            // an absent label switches off the rest of its block
+            let Some(place) = value else {
+                is_live = false;
+                break;
+            };
+            ends.insert(span.code, u64::from(place) + u64::from(span.size));
+            places.taken.push(Taken {
+                block: index,
+                span: *span,
+                place,
+            });
+        }
+        if is_live {
+            places.live.push(index);
+        }
+    }
+    Some(Ok(places))
+}
+
+/// `block 3 (DESC)`.
+pub(super) fn block_title(index: usize, desc: &[u8]) -> String {
+    format!("block {index}{}", in_brackets(Some(desc)))
+}
+
+/// `block 3 (DESC), KEY=LABEL`.
+pub(super) fn span_title(index: usize, desc: &[u8], span: &Span) -> String {
     let label = quoted(&[span.key.as_bytes(), span.label].concat());
-    format!("block {index}{desc}, {label}")
+    format!("{}, {label}", block_title(index, desc))
 }
 
 fn span_fault(span: &Span, value: Option<u32>, end: u64) -> Option<(Number, String)> {
@@ -55,7 +101,7 @@ fn span_fault(span: &Span, value: Option<u32>, end: u64) -> Option<(Number, Stri
     }
     let place = value?;
     if u64::from(place) < end {
-        let section = span.section;
+        let section = span.code.name();
         return Some((
             Number::BlockPlace,
             format!("it is at {place}, below {end}, the end of the block before in {section}"),

@@ -1,16 +1,12 @@
 //! Refusal 6: a relocation table.
 
 use super::sections::section_title;
-use crate::elf::{ObjectFile, SHT_REL, SHT_RELA};
+use crate::elf::ObjectFile;
 
 pub(super) fn words(object: ObjectFile, place: usize) -> Option<String> {
     let table = object.section(place)?;
     let count = object.section_count()?;
-    let entry = match table.sh_type {
-        SHT_REL => 8,
-        SHT_RELA => 12,
-        _ => return None,
-    };
+    let entry = table.relocation_size()? as u32;
     let (symbols, _) = object.symbol_table()?;
     let (sh_link, sh_info) = (table.sh_link, table.sh_info);
     let fault = if table.sh_entsize != entry {

@@ -16,10 +16,14 @@ const TYPES: [(&[u8], u32); 6] = [
     (b".reginfo", elf::SHT_MIPS_REGINFO),
 ];
 
+/// `section 3 (NAME)`.
+pub(super) fn section_name(object: ObjectFile, index: usize) -> String {
+    format!("section {index}{}", in_brackets(object.section_name(index)))
+}
+
 /// `section 3 (NAME) of the compiled object`.
 pub(super) fn section_title(object: ObjectFile, index: usize) -> String {
-    let name = in_brackets(object.section_name(index));
-    format!("section {index}{name} of {}", object.title)
+    format!("{} of {}", section_name(object, index), object.title)
 }
 
 pub(super) fn header_words(object: ObjectFile, place: usize) -> Option<String> {

@@ -24,8 +24,14 @@ pub(super) fn words(object: ObjectFile, place: usize) -> Option<String> {
     } else {
         return None;
     };
-    let name = in_brackets(symbol.name);
-    Some(format!("symbol {place}{name} of {}: {fault}", object.title))
+    let title = symbol_title(object, place, symbol.name);
+    Some(format!("{title}: {fault}"))
+}
+
+/// `symbol 3 (NAME) of the compiled object`.
+pub(super) fn symbol_title(object: ObjectFile, index: usize, name: Option<&[u8]>) -> String {
+    let name = in_brackets(name);
+    format!("symbol {index}{name} of {}", object.title)
 }
 
 /// What is wrong with the whole table.

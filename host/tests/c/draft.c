@@ -1,49 +1,15 @@
 /* Document 01's example and three refusals, from C: draft CASE TEXT, where CASE is
  * three big-endian lengths, then the compiled object, the prelude and the block
  * file, and TEXT is their draft. Prints what differs, and then ends with 1. */
-#include <daphulle.h>
-#include <stdio.h>
-#include <stdlib.h>
-#include <string.h>
-
-struct bytes {
-    uint8_t *start;
-    size_t length;
-};
+#include "expect.h"
 
 static struct bytes compiled, prelude, blocks, text;
 static uint8_t out[4096], table[DAPHULLE_BLOCK_TABLE], places[DAPHULLE_PLACE_TABLE];
-static int differences;
-
-static struct bytes contents(const char *name) {
-    struct bytes file = {malloc(65536), 0};
-    FILE *stream = fopen(name, "rb");
-    if (!stream || !file.start) {
-        perror(name);
-        exit(2);
-    }
-    file.length = fread(file.start, 1, 65536, stream);
-    fclose(stream);
-    return file;
-}
 
 /* The k-th length at the front of a case. */
 static size_t length_at(struct bytes file, size_t k) {
     const uint8_t *p = file.start + 4 * k;
     return (size_t)p[0] << 24 | (size_t)p[1] << 16 | (size_t)p[2] << 8 | p[3];
-}
-
-static void expect(const char *what, int holds) {
-    if (!holds) {
-        printf("differs: %s\n", what);
-        differences++;
-    }
-}
-
-static int is_zero(const uint8_t *bytes, size_t length) {
-    for (size_t i = 0; i < length; i++)
-        if (bytes[i]) return 0;
-    return 1;
 }
 
 /* Calls the draft with noise in the buffers, and looks at what it leaves there. */
@@ -58,10 +24,6 @@ static struct daphulle_outcome call(size_t compiled_length, size_t out_length, s
     expect("the table is clear", is_zero(table, table_length));
     expect("the places are clear", is_zero(places, sizeof places));
     return r;
-}
-
-static int is_refusal(struct daphulle_outcome r, enum daphulle_number number, enum daphulle_object object, uint64_t place) {
-    return r.length == 0 && r.number == (uint32_t)number && r.object == (uint32_t)object && r.place == place;
 }
 
 int main(int argc, char **argv) {
