@@ -34,7 +34,7 @@ const USAGE: &str = "usage: runner compare KIND SEED JOBS [SECONDS]
        runner record KIND SEED JOBS FILE
        runner replay FILE [SECONDS]
        runner fuzz KIND SEED SECONDS FOLDER
-       runner speed KIND ROUNDS
+       runner speed KIND ROUNDS [ROW]
        runner job KIND SEED INDEX FOLDER
        runner stored FOLDER
 KIND is draft or merge.";
@@ -71,12 +71,8 @@ fn command(words: &[&str]) -> io::Result<ExitCode> {
                 ExitCode::FAILURE
             })
         }
-        ["speed", kind, rounds] => match oracle::MISSING {
-            Some(reason) => Err(io::Error::other(reason)),
-            None => {
-                speed::speed(which(kind)?, number(rounds)? as usize).map(|()| ExitCode::SUCCESS)
-            }
-        },
+        ["speed", kind, rounds] => times(which(kind)?, number(rounds)?, ""),
+        ["speed", kind, rounds, part] => times(which(kind)?, number(rounds)?, part),
         ["job", kind, seed, index, folder] => {
             let job = job::job(which(kind)?, number(seed)?, number(index)?);
             fs::create_dir_all(folder)?;
@@ -90,6 +86,14 @@ fn command(words: &[&str]) -> io::Result<ExitCode> {
         }
         ["stored", folder] => stored(Path::new(folder)),
         _ => Err(io::Error::new(ErrorKind::InvalidInput, USAGE)),
+    }
+}
+
+/// The rows of the table of speed whose names hold `part`.
+fn times(kind: Kind, rounds: u64, part: &str) -> io::Result<ExitCode> {
+    match oracle::MISSING {
+        Some(reason) => Err(io::Error::other(reason)),
+        None => speed::speed(kind, rounds as usize, part).map(|()| ExitCode::SUCCESS),
     }
 }
 

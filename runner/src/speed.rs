@@ -136,21 +136,25 @@ fn median(mut times: Vec<f64>) -> f64 {
     times[times.len() / 2]
 }
 
-pub fn speed(kind: Kind, rounds: usize) -> io::Result<()> {
+/// The rows whose names hold `part`.
+pub fn speed(kind: Kind, rounds: usize, part: &str) -> io::Result<()> {
     panic::set_hook(Box::new(|_| ()));
     match kind {
-        Kind::Draft => drafts(rounds),
-        Kind::Merge => merges(rounds),
+        Kind::Draft => drafts(rounds, part),
+        Kind::Merge => merges(rounds, part),
     }
 }
 
 /// Merges of all sizes, and such as make a careless merge slow; those have few rounds.
-fn merges(rounds: usize) -> io::Result<()> {
+fn merges(rounds: usize, part: &str) -> io::Result<()> {
     println!(
         "| job | blocks | symbols of C and of A | relocations | statics | C and A, bytes | result | proved, us | Rust, us | Rust / proved |"
     );
     println!("|---|---|---|---|---|---|---|---|---|---|");
     for (name, size) in large::sizes() {
+        if !name.contains(part) {
+            continue;
+        }
         let job = large::merge(size);
         let rounds = if size.is_hostile() {
             rounds.min(3)
@@ -171,23 +175,19 @@ fn merges(rounds: usize) -> io::Result<()> {
     Ok(())
 }
 
-fn drafts(rounds: usize) -> io::Result<()> {
+fn drafts(rounds: usize, part: &str) -> io::Result<()> {
     println!(
         "| job | blocks | symbols | block file | draft | proved, us | Rust, us | Rust / proved | proved, ns a byte |"
     );
     println!("|---|---|---|---|---|---|---|---|---|");
-    for (name, size) in [("small", SMALL), ("typical", TYPICAL), ("largest", LARGEST)] {
-        row(name, size, rounds)?;
-    }
+    let mut rows: Vec<(String, Size)> = vec![
+        ("small".into(), SMALL),
+        ("typical".into(), TYPICAL),
+        ("largest".into(), LARGEST),
+    ];
     for factor in [1, 2, 4, 8] {
-        row(
-            &format!("{factor} x symbols"),
-            Size {
-                symbols: 512 * factor,
-                ..TYPICAL
-            },
-            rounds,
-        )?;
+        let symbols = 512 * factor;
+        rows.push((format!("{factor} x symbols"), Size { symbols, ..TYPICAL }));
     }
     for factor in [1, 2, 4, 8] {
         let size = Size {
@@ -195,14 +195,14 @@ fn drafts(rounds: usize) -> io::Result<()> {
             symbols: 4096,
             lines: 30,
         };
-        row(&format!("{factor} x blocks"), size, rounds)?;
+        rows.push((format!("{factor} x blocks"), size));
     }
     for factor in [1, 2, 4, 8] {
-        let size = Size {
-            lines: TYPICAL.lines * factor,
-            ..TYPICAL
-        };
-        row(&format!("{factor} x lines"), size, rounds)?;
+        let lines = TYPICAL.lines * factor;
+        rows.push((format!("{factor} x lines"), Size { lines, ..TYPICAL }));
+    }
+    for (name, size) in rows.iter().filter(|(name, _)| name.contains(part)) {
+        row(name, *size, rounds)?;
     }
     Ok(())
 }
