@@ -154,19 +154,29 @@ struct daphulle_work {
 };
 
 /* daphulle_draft on a job. Of the work area it takes, and clears, what a draft needs. */
-static inline struct daphulle_outcome daphulle_draft_job(const struct daphulle_job *job, struct daphulle_work *work) {
-    return daphulle_draft(job->compiled.start, job->compiled.length, job->prelude.start, job->prelude.length,
-                          job->blocks.start, job->blocks.length, job->out, job->out_length,
-                          work->table, DAPHULLE_BLOCK_TABLE, work->places, DAPHULLE_PLACE_TABLE);
+static inline struct daphulle_outcome daphulle_draft_job(const struct daphulle_job *job,
+                                                         struct daphulle_work *work) {
+    return daphulle_draft(job->compiled.start, job->compiled.length,
+                          job->prelude.start, job->prelude.length,
+                          job->blocks.start, job->blocks.length,
+                          job->out, job->out_length,
+                          work->table, DAPHULLE_BLOCK_TABLE,
+                          work->places, DAPHULLE_PLACE_TABLE);
 }
 
 /* daphulle_merge on a job. */
-static inline struct daphulle_outcome daphulle_merge_job(const struct daphulle_job *job, struct daphulle_work *work) {
-    return daphulle_merge(job->compiled.start, job->compiled.length, job->assembled.start, job->assembled.length,
-                          job->blocks.start, job->blocks.length, job->path.start, job->path.length,
-                          job->flag, job->mode, job->out, job->out_length,
-                          work->table, sizeof work->table, work->places, sizeof work->places,
-                          work->steps, sizeof work->steps, work->index, sizeof work->index);
+static inline struct daphulle_outcome daphulle_merge_job(const struct daphulle_job *job,
+                                                         struct daphulle_work *work) {
+    return daphulle_merge(job->compiled.start, job->compiled.length,
+                          job->assembled.start, job->assembled.length,
+                          job->blocks.start, job->blocks.length,
+                          job->path.start, job->path.length,
+                          job->flag, job->mode,
+                          job->out, job->out_length,
+                          work->table, sizeof work->table,
+                          work->places, sizeof work->places,
+                          work->steps, sizeof work->steps,
+                          work->index, sizeof work->index);
 }
 
 /* The call that an outcome is of. */
@@ -184,7 +194,8 @@ enum daphulle_call {
  *
  * The words are not proved. They are read from the inputs again; where these do not
  * show the fault, the words are the number's general clause. */
-size_t daphulle_words(uint32_t call, const struct daphulle_job *job, struct daphulle_outcome outcome,
+size_t daphulle_words(uint32_t call, const struct daphulle_job *job,
+                      struct daphulle_outcome outcome,
                       char *line, size_t line_length);
 
 #ifdef __cplusplus

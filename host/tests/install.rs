@@ -3,19 +3,21 @@
 
 mod common;
 
-use common::{FIRMWARE, Folder, command::COMMAND, known_merge, tools::are_there};
+use common::{CASE_FILE, DRAFT, FIRMWARE, Folder, command::COMMAND, known_merge, tools::are_there};
 use daphulle::{ConvertStatics, Error, Merge, PRELUDE, draft, draft_within, merge};
 use std::{
     collections::{BTreeMap, BTreeSet},
-    env, fs,
+    env,
+    fs::{self, File},
     io::{BufRead, BufReader},
     os::unix::fs::{PermissionsExt, symlink},
     path::{Path, PathBuf},
     process::{Command, Output, Stdio},
+    time::SystemTime,
 };
 
 const TOP: &str = concat!(env!("CARGO_MANIFEST_DIR"), "/..");
-const PROGRAM: &str = concat!(env!("CARGO_MANIFEST_DIR"), "/tests/c/installed.c");
+const PROGRAMS: &str = concat!(env!("CARGO_MANIFEST_DIR"), "/tests/c");
 
 fn read(name: &str) -> String {
     fs::read_to_string(Path::new(TOP).join(name)).unwrap()
@@ -28,6 +30,14 @@ fn field<'a>(manifest: &'a str, key: &str) -> &'a str {
     let value = lines.next().unwrap().strip_suffix('"').unwrap();
     assert_eq!(lines.next(), None);
     value
+}
+
+/// The first code on a page that is in a language and has a word in it, and what stands behind it.
+fn code<'a>(page: &'a str, language: &str, word: &str) -> (&'a str, &'a str) {
+    let fence = format!("```{language}\n");
+    let rest = page.split(&*fence).skip(1);
+    let mut parts = rest.map(|rest| rest.split_once("```").unwrap());
+    parts.find(|(code, _)| code.contains(word)).unwrap()
 }
 
 /// What the scripts in tools/ need of any system.
@@ -257,11 +267,20 @@ fn has_binutils() -> bool {
     are_there(&tools, "the installed library")
 }
 
+/// What `tools/install PREFIX` prints, once all that it needs is built.
 fn installed(prefix: &Path, destination: Option<&Path>) -> Output {
+    let built = Command::new(env!("CARGO"))
+        .args(["build", "--release", "--offline", "--quiet"])
+        .current_dir(env!("CARGO_MANIFEST_DIR"))
+        .output()
+        .unwrap();
+    assert!(built.status.success(), "{built:?}");
     let mut install = Command::new(Path::new(TOP).join("tools/install"));
     install.arg(prefix).env_remove("DESTDIR");
     if let Some(folder) = destination {
-        install.env("DESTDIR", folder);
+        // as a name in the folder that it is called in
+        install.env("DESTDIR", folder.file_name().unwrap());
+        install.current_dir(folder.parent().unwrap());
     }
     let output = install.output().unwrap();
     assert!(output.status.success(), "{output:?}");
@@ -292,10 +311,10 @@ fn files_below(folder: &Path) -> BTreeSet<PathBuf> {
 }
 
 /// The words that a C compiler takes for a package: by pkg-config, or as the files have them.
-fn flags(prefix: &Path) -> Vec<String> {
+fn flags(prefix: &Path, package: &str) -> Vec<String> {
     let files = prefix.join("lib/pkgconfig");
     let asked = Command::new("pkg-config")
-        .args(["--cflags", "--libs", "daphulle_words"])
+        .args(["--cflags", "--libs", package])
         .env("PKG_CONFIG_LIBDIR", &files)
         .env_remove("PKG_CONFIG_PATH")
         .output();
@@ -305,9 +324,11 @@ fn flags(prefix: &Path) -> Vec<String> {
             String::from_utf8(output.stdout).unwrap()
         }
         Err(_) => {
-            let files = ["daphulle_words.pc", "daphulle.pc"].map(|name| files.join(name));
-            let files = files.map(|file| fs::read_to_string(file).unwrap());
-            let text = files.join("\n");
+            let mut packages = vec![package, "daphulle"];
+            packages.dedup();
+            let file = |package: &str| files.join(package).with_extension("pc");
+            let file = |package| fs::read_to_string(file(package)).unwrap();
+            let text: String = packages.into_iter().map(file).collect();
             let values = ["Cflags: ", "Libs: "].map(|key| {
                 let values = text.lines().filter_map(|line| line.strip_prefix(key));
                 values.collect::<Vec<_>>().join(" ")
@@ -353,15 +374,9 @@ fn a_c_program_over_the_installed_library() {
     }
     let program = folder.path().join("program");
     let built = Command::new("cc")
-        .args([
-            "-std=c11",
-            "-Wall",
-            "-Wextra",
-            "-Werror",
-            "-pedantic",
-            PROGRAM,
-        ])
-        .args(flags(&prefix))
+        .args(["-std=c11", "-Wall", "-Wextra", "-Werror", "-pedantic"])
+        .arg(Path::new(PROGRAMS).join("installed.c"))
+        .args(flags(&prefix, "daphulle_words"))
         .args(["-Wl,--fatal-warnings", "-o"])
         .arg(&program)
         .output()
@@ -402,6 +417,79 @@ fn a_c_program_over_the_installed_library() {
         "0 differences".into(),
     ];
     assert_eq!(lines(&run.stdout), expected);
+}
+
+/// Without the words, C's library is all that the proved one needs.
+#[test]
+fn the_proved_library_by_itself() {
+    if !has_binutils() {
+        return;
+    }
+    let folder = Folder::new();
+    let [prefix, program, text] = ["prefix", "draft", "text"].map(|name| folder.path().join(name));
+    installed(&prefix, None);
+    fs::write(&text, DRAFT).unwrap();
+    let built = Command::new("cc")
+        .arg(Path::new(PROGRAMS).join("draft.c"))
+        .args(flags(&prefix, "daphulle"))
+        .args(["-nodefaultlibs", "-lc", "-o"])
+        .arg(&program)
+        .output()
+        .unwrap();
+    assert!(built.status.success(), "{built:?}");
+    let run = Command::new(&program).arg(CASE_FILE).arg(&text).output();
+    assert_eq!(run.unwrap().stdout, b"0 differences\n");
+}
+
+/// The program of host/README.md, compiled as it says where pkg-config is there.
+#[test]
+fn the_c_program_of_the_readme() {
+    if !has_binutils() {
+        return;
+    }
+    let page = read("host/README.md");
+    let (source, _) = code(&page, "c", "daphulle_words");
+    let (compile, _) = code(&page, "sh", "daphulle_words");
+    let folder = Folder::new();
+    let prefix = folder.path().join("prefix");
+    installed(&prefix, None);
+    fs::write(folder.path().join("program.c"), source).unwrap();
+    let compile = compile.replace("$(pkg-config --cflags --libs daphulle_words)", "$FLAGS");
+    let built = Command::new("sh")
+        .args(["-e", "-c", &compile])
+        .env("FLAGS", flags(&prefix, "daphulle_words").join(" "))
+        .current_dir(folder.path())
+        .output()
+        .unwrap();
+    assert!(
+        compile.contains("$FLAGS") && built.status.success(),
+        "{built:?}"
+    );
+
+    let known = known_merge();
+    let run_on = |assembled: &[u8]| {
+        let files = [
+            ("c.o", &known.compiled[..]),
+            ("a.o", assembled),
+            ("blocks", &known.blocks),
+        ];
+        for (name, bytes) in files {
+            fs::write(folder.path().join(name), bytes).unwrap();
+        }
+        let mut program = Command::new(folder.path().join("program"));
+        program.current_dir(folder.path()).output().unwrap()
+    };
+    let merged = run_on(&known.assembled);
+    assert!(merged.status.success() && merged.stdout == known.merged);
+    let refused = run_on(&known.assembled[..51]);
+    let assembled = &known.assembled[..51];
+    let words = words(merge(&Merge {
+        assembled,
+        ..known.merge()
+    }));
+    let told = format!("refused 2: {words}\n");
+    assert_eq!(String::from_utf8(refused.stderr).unwrap(), told);
+    assert_eq!(refused.status.code(), Some(1));
 }
 
 /// The header and the libraries are C++, too, and the installed libraries have no other names than
@@ -470,22 +558,37 @@ fn the_installed_names() {
 /// What an installation needs is told before anything is written.
 #[test]
 fn an_installation_says_what_is_missing() {
-    let folder = Folder::new();
+    let (folder, empty) = (Folder::new(), Folder::new());
     let path = path_of(&[BASE], &[]);
-    let install = |words: &[&str]| {
+    let install_from = |library: &Path, built: &Path, words: &[&str]| {
         let mut install = script("install", &path);
-        install.args(words).env("DAPHULLE_LIB", folder.path());
-        let output = install.current_dir(folder.path()).output().unwrap();
+        install.args(words).current_dir(folder.path());
+        install.env("DAPHULLE_LIB", library);
+        install.env("CARGO_TARGET_DIR", built);
+        let output = install.output().unwrap();
         assert_eq!(output.status.code(), Some(2), "{output:?}");
         String::from_utf8(output.stderr).unwrap()
     };
+    let install = |words: &[&str]| install_from(empty.path(), empty.path(), words);
     let told = install(&["prefix"]);
     for tool in ["ld", "objcopy", "ar", "nm"] {
         let line = format!("tools/install: {tool} is not there. Install binutils");
         assert!(told.contains(&line), "{told}");
     }
-    assert!(told.contains("cargo is not there. Install Rust"), "{told}");
-    assert!(told.contains("libdaphulle.a is not there. Run tools/build"));
+    for file in ["libdaphulle.a", "/daphulle", "libdaphulle_words.a"] {
+        let line = format!("{file} is not there. Run tools/build.\n");
+        assert!(told.contains(&line), "{told}");
+    }
+    // a command of before, and no words
+    let (library, built) = (Folder::new(), Folder::new());
+    fs::create_dir(built.path().join("release")).unwrap();
+    let command = File::create(built.path().join("release/daphulle")).unwrap();
+    command.set_modified(SystemTime::UNIX_EPOCH).unwrap();
+    fs::write(library.path().join("libdaphulle.a"), "").unwrap();
+    let told = install_from(library.path(), built.path(), &["prefix"]);
+    assert!(!told.contains("libdaphulle.a is not there"), "{told}");
+    assert!(told.contains("/daphulle is older than the library. Run tools/build.\n"));
+    assert!(told.contains("libdaphulle_words.a is not there. Run tools/build.\n"));
     for wrong in [&[][..], &["a", "b"], &["--help"], &[""]] {
         assert!(install(wrong).starts_with("usage: "), "{wrong:?}");
     }
@@ -542,9 +645,7 @@ fn the_example_of_the_front_page() {
         return;
     }
     let page = read("README.md");
-    let mut examples = page.split("```sh\n").skip(1);
-    let example = examples.find(|text| text.contains("qemu-mips")).unwrap();
-    let (example, behind) = example.split_once("```").unwrap();
+    let (example, behind) = code(&page, "sh", "qemu-mips");
     let folder = Folder::new();
     let paths = [
         Path::new(COMMAND).parent().unwrap().into(),
