@@ -18,7 +18,14 @@ use std::{
 const ARCHIVE: &str = env!("DAPHULLE_ARCHIVE");
 const INCLUDE: &str = concat!(env!("CARGO_MANIFEST_DIR"), "/include");
 const PROGRAMS: &str = concat!(env!("CARGO_MANIFEST_DIR"), "/tests/c");
-const WARNINGS: [&str; 4] = ["-Wall", "-Wextra", "-Werror", "-pedantic"];
+/// The archive has document 01's names. tests/install.rs has programs over the installed one.
+const FLAGS: [&str; 5] = [
+    "-DDAPHULLE_PLAIN_NAMES",
+    "-Wall",
+    "-Wextra",
+    "-Werror",
+    "-pedantic",
+];
 
 /// Builds a program and runs it on files.
 fn check(program: &str, files: &[&Path]) {
@@ -26,7 +33,7 @@ fn check(program: &str, files: &[&Path]) {
     let built = folder.path().join("program");
     let output = Command::new("cc")
         .args(["-std=c11", "-I", INCLUDE])
-        .args(WARNINGS)
+        .args(FLAGS)
         .args([&format!("{PROGRAMS}/{program}"), ARCHIVE, "-o"])
         .arg(&built)
         .output()
@@ -57,13 +64,17 @@ fn a_cpp_program_links() {
     let folder = Folder::new();
     let (source, program) = (folder.path().join("link.cpp"), folder.path().join("link"));
     let text = "#include <daphulle.h>\n#include <daphulle.h>\n\
+                static daphulle_work work;\n\
                 int main() {\n    daphulle_outcome r = draft(0, 0, 0, 0, 0, 0, 0, 0, 0, 0, 0, 0);\n    \
                 daphulle_outcome s = merge(0, 0, 0, 0, 0, 0, 0, 0, 0, 0, 0, 0, 0, 0, 0, 0, 0, 0, 0, 0);\n    \
-                return r.number == DAPHULLE_LIMITS && s.number == DAPHULLE_LIMITS ? 0 : 1;\n}\n";
+                daphulle_job job = daphulle_job();\n    \
+                daphulle_outcome t = daphulle_draft_job(&job, &work), u = daphulle_merge_job(&job, &work);\n    \
+                return r.number == DAPHULLE_LIMITS && s.number == DAPHULLE_LIMITS\n        \
+                && t.number == DAPHULLE_FILE_HEADER && u.number == DAPHULLE_FILE_HEADER ? 0 : 1;\n}\n";
     fs::write(&source, text).unwrap();
     let built = Command::new("c++")
         .args(["-std=c++11", "-I", INCLUDE])
-        .args(WARNINGS)
+        .args(FLAGS)
         .arg(&source)
         .args([ARCHIVE, "-o"])
         .arg(&program)
@@ -88,7 +99,11 @@ fn constant(before: &str, value: impl Debug) -> String {
 /// Every number that Rust and C both write down is the same.
 #[test]
 fn the_header_has_the_numbers_of_the_library() {
+    let work = call::BLOCK_BUFFER + call::PLACE_BUFFER + call::STEP_BUFFER + call::INDEX_BUFFER;
     let mut equal = vec![
+        // as the header says it in words
+        ("902224".into(), work),
+        ("sizeof(struct daphulle_work)".into(), work),
         ("DAPHULLE_FILE_LIMIT".into(), call::FILE_LIMIT),
         ("DAPHULLE_PATH_LIMIT".into(), call::PATH_LIMIT),
         ("DAPHULLE_BLOCK_TABLE".into(), call::BLOCK_TABLE),
@@ -124,7 +139,7 @@ fn the_header_has_the_numbers_of_the_library() {
     fs::write(&source, text).unwrap();
     let checked = Command::new("cc")
         .args(["-std=c11", "-fsyntax-only", "-I", INCLUDE])
-        .args(WARNINGS)
+        .args(FLAGS)
         .arg(&source)
         .output()
         .unwrap();

@@ -26,6 +26,8 @@ static struct bytes contents(const char *name) {
     return file;
 }
 
+static inline struct daphulle_bytes lent(struct bytes file) { return (struct daphulle_bytes){file.start, file.length}; }
+
 static void expect(const char *what, int holds) {
     if (!holds) {
         printf("differs: %s\n", what);
@@ -33,13 +35,13 @@ static void expect(const char *what, int holds) {
     }
 }
 
-static int is_zero(const uint8_t *bytes, size_t length) {
+static inline int is_zero(const uint8_t *bytes, size_t length) {
     for (size_t i = 0; i < length; i++)
         if (bytes[i]) return 0;
     return 1;
 }
 
-static int is_refusal(struct daphulle_outcome r, enum daphulle_number number, enum daphulle_object object, uint64_t place) {
+static inline int is_refusal(struct daphulle_outcome r, enum daphulle_number number, enum daphulle_object object, uint64_t place) {
     return r.length == 0 && r.number == (uint32_t)number && r.object == (uint32_t)object && r.place == place;
 }
 
