@@ -66,11 +66,12 @@ fn every_option_is_explained() {
     assert_eq!(options(&cells), options(explained));
     assert_eq!(options(synopsis), options(front));
     assert_eq!(options(HELP), options(&cells));
+    // the synopsis has all but the long name of -o
     let missing: Vec<_> = options(HELP)
         .difference(&options(synopsis))
         .copied()
         .collect();
-    assert!(missing.is_empty(), "{missing:?} are not in: {synopsis}");
+    assert_eq!(missing, ["--output"], "{synopsis}");
     assert!(options(HELP).contains("--blocks") && options(HELP).contains("-o"));
 }
 

@@ -6,7 +6,7 @@
 pub mod command;
 pub mod tools;
 
-use daphulle::{Asked, ConvertStatics, Draft, Inputs, Merge, Number, Object};
+use daphulle::{Asked, ConvertStatics, Draft, Error, Inputs, JobFile, Merge, Number, Object};
 use std::{
     env, fs,
     path::{Path, PathBuf},
@@ -286,6 +286,25 @@ impl Drop for Folder {
     fn drop(&mut self) {
         // Nothing can be done about a folder that does not go.
         let _ = fs::remove_dir_all(&self.0);
+    }
+}
+
+/// The line of an error as the command tells it, with its usual names of the files.
+pub fn line(error: &Error) -> String {
+    let Error::Refused(refusal) = error else {
+        return error.to_string();
+    };
+    let name = match refusal.file {
+        JobFile::Compiled => "c.o",
+        JobFile::Assembled => "a.o",
+        JobFile::Prelude => "prelude",
+        JobFile::Blocks => "blocks",
+        JobFile::Output => "out",
+        other => panic!("{other:?}"),
+    };
+    match refusal.line {
+        Some(line) => format!("{name}:{line}: {refusal}"),
+        None => format!("{name}: {refusal}"),
     }
 }
 
