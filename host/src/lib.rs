@@ -147,13 +147,12 @@ pub fn draft_within(
 ) -> Result<Vec<u8>, Error> {
     let mut table = vec![0; call::BLOCK_TABLE];
     let mut places = vec![0; call::PLACE_TABLE];
-    let room = draft_room(compiled, prelude, blocks);
     let asked = Asked::Draft(Draft {
         compiled,
         prelude,
         blocks,
     });
-    result(limit, room, asked, |out| {
+    result(limit, asked, |out| {
         call::draft_into(compiled, prelude, blocks, out, &mut table, &mut places)
     })
 }
@@ -178,8 +177,7 @@ pub fn merge_within(limit: usize, merge: &Merge) -> Result<Vec<u8>, Error> {
         flag: merge.drop_mdebug_gptab.into(),
         mode: merge.convert_statics.code(),
     };
-    let room = merge_room(merge);
-    result(limit, room, Asked::Merge(*merge), |out| {
+    result(limit, Asked::Merge(*merge), |out| {
         let buffers = MergeBuffers {
             out,
             table: &mut table,
@@ -195,10 +193,13 @@ pub fn merge_within(limit: usize, merge: &Merge) -> Result<Vec<u8>, Error> {
 /// where 21 says that this was not enough.
 fn result(
     limit: usize,
-    room: usize,
     asked: Asked,
     mut call: impl FnMut(&mut [u8]) -> Outcome,
 ) -> Result<Vec<u8>, Error> {
+    let room = match asked {
+        Asked::Draft(draft) => draft_room(draft.compiled, draft.prelude, draft.blocks),
+        Asked::Merge(merge) => merge_room(&merge),
+    };
     let mut out = vec![0; room.min(limit)];
     let mut answer = call(&mut out).answer(out.len())?;
     if let Answer::Refused(Number::OutputRoom, _, needed) = answer
@@ -222,21 +223,32 @@ fn result(
 
 #[cfg(test)]
 mod tests {
-    use super::{Asked, Draft, call::Outcome, result};
+    use super::{
+        Asked, ConvertStatics, Draft, Merge, call::Outcome, draft_room, merge_room, result,
+    };
 
-    /// The length of a result of 100 bytes, and how often the call was made.
-    fn made(limit: usize, room: usize) -> (Option<usize>, usize) {
-        let nothing = Draft {
-            compiled: b"",
-            prelude: b"",
-            blocks: b"",
-        };
+    const DRAFT: Draft = Draft {
+        compiled: b"",
+        prelude: b"",
+        blocks: b"",
+    };
+    const MERGE: Merge = Merge {
+        compiled: b"",
+        assembled: b"",
+        blocks: b"",
+        path: b"",
+        drop_mdebug_gptab: false,
+        convert_statics: ConvertStatics::No,
+    };
+
+    /// The length of a result, where a call needs so many bytes, and how often it was made.
+    fn made(limit: usize, asked: Asked, needed: usize) -> (Option<usize>, usize) {
         let mut calls = 0;
-        let made = result(limit, room, Asked::Draft(nothing), |out| {
+        let made = result(limit, asked, |out| {
             calls += 1;
-            let (length, number, place) = match out.len() {
-                100.. => (100, 0, 0),
-                _ => (0, 21, 100),
+            let (length, number, place) = match out.len() >= needed {
+                true => (needed as u64, 0, 0),
+                false => (0, 21, needed as u64),
             };
             Outcome {
                 length,
@@ -249,11 +261,15 @@ mod tests {
     }
 
     #[test]
-    fn a_call_with_room_is_made_once() {
-        assert_eq!(made(1000, 100), (Some(100), 1));
-        assert_eq!(made(100, 1000), (Some(100), 1));
-        assert_eq!(made(99, 1000), (None, 1));
-        // room that is too short is no refusal
-        assert_eq!(made(1000, 99), (Some(100), 2));
+    fn a_call_that_has_room_is_made_once() {
+        let draft = (Asked::Draft(DRAFT), draft_room(b"", b"", b""));
+        let merge = (Asked::Merge(MERGE), merge_room(&MERGE));
+        for (asked, room) in [draft, merge] {
+            assert_eq!(made(1000, asked, room), (Some(room), 1));
+            assert_eq!(made(1000, asked, 0), (Some(0), 1));
+            assert_eq!(made(room - 1, asked, room), (None, 1));
+            // room that is too short is no refusal
+            assert_eq!(made(1000, asked, room + 1), (Some(room + 1), 2));
+        }
     }
 }

@@ -1,11 +1,11 @@
 //! Room for a result, read from the inputs before the call. No accepted call needs more, so that the
-//! call is made once. This is not proved, and nothing depends on it but time: where the room were
-//! too short, 21 says the exact length.
+//! call is made once; only statics of a debug section that has more entries than bytes are left out.
+//! This is not proved, and nothing depends on it but time: where the room is too short, 21 says the
+//! exact length.
 //!
 //! It is not simply 16 MiB, the room for every result, as the proved call zeroes all that it is
 //! lent: of the firmware in tests/firmware a draft takes 0.02 ms as it is here and 1.3 ms with
-//! 16 MiB, a merge 0.08 and 1.4 ms. Nor is it a guess that may be too short: a merge with 4,096
-//! statics of one name of 500 bytes takes 9 s, and would take them twice.
+//! 16 MiB, a merge 0.08 and 1.4 ms.
 
 use crate::Merge;
 use crate::blocks::blocks;
@@ -42,7 +42,8 @@ pub fn draft_room(compiled: &[u8], prelude: &[u8], block_file: &[u8]) -> usize {
 }
 
 /// The most bytes that the result of a merge can have, where it is accepted. `merge` lends that many;
-/// a caller of `call::merge_into` may do the same.
+/// a caller of `call::merge_into` may do the same. A debug section whose files share their entries
+/// can ask for more.
 pub fn merge_room(merge: &Merge) -> usize {
     if is_over([merge.compiled, merge.assembled, merge.blocks]) {
         return 0;
@@ -86,7 +87,10 @@ fn of_statics(compiled: ObjectFile, merge: &Merge) -> usize {
         ConvertStatics::GlobalWithFilename => merge.path.len() + 1,
         _ => 0,
     };
-    let statics = Known::of(compiled).map(|known| statics(&known, merge.convert_statics));
+    // There are no more entries than bytes, unless files share them. The call may be refused for
+    // something else at once, and does not have to wait for a walk over billions.
+    let (mode, most) = (merge.convert_statics, compiled.bytes.len());
+    let statics = Known::of(compiled).map(|known| statics(&known, mode, most));
     // Where they cannot be read, there is no result.
     let statics = statics.and_then(Result::ok).unwrap_or_default();
     let names = statics.iter().map(|item| head + item.name.len() + 1);

@@ -2,8 +2,9 @@
 
 mod common;
 
-use common::{block, debug_section, known_case, known_merge, made, object, with_field};
+use common::{block, debug_section, known_case, known_merge, line, made, object, with_field};
 use daphulle::{ConvertStatics, DRAFT_LIMIT, Merge, draft, draft_room, merge, merge_room};
+use std::time::{Duration, Instant};
 
 /// The length of a draft, and the room for it.
 fn drafted(compiled: &[u8], prelude: &[u8], blocks: &[u8]) -> (usize, usize) {
@@ -113,6 +114,40 @@ fn a_merge_with_alignment_and_new_sections() {
     ];
     let assembled = made(&sections, &[("far", "", 0, 1)], 1);
     check(merged(&of(&compiled, &assembled, b"")), 2);
+}
+
+/// Files of a debug section that share their entries, 180 million in all: a call that is refused at
+/// once does not wait for a look at each of them.
+#[test]
+fn a_debug_section_of_many_files() {
+    let (files, entries) = (9000_u32, 20_000_u32);
+    let files_at = 52 + 96;
+    let entries_at = files_at + 72 * files;
+    let mut debug = vec![0; 96 + 72 * files as usize + 12 * entries as usize];
+    let mut put = |at: u32, word: u32| {
+        debug[at as usize..][..4].copy_from_slice(&word.to_be_bytes());
+    };
+    for (at, word) in [(36, entries_at), (72, files), (76, files_at)] {
+        put(at, word);
+    }
+    for file in 0..files {
+        put(96 + 72 * file + 20, entries);
+    }
+    let sections = [(".mdebug", &debug[..]), (".text", &[0; 16])];
+    let compiled = made(&sections, &[], 1);
+    let assembled = made(&[(".text", &[])], &[], 1);
+    let job = Merge {
+        blocks: b"no block",
+        ..of(&compiled, &assembled, b"")
+    };
+    // the quickest of three: others use the machine, too
+    let times = (0..3).map(|_| {
+        let start = Instant::now();
+        let refused = merge(&job).unwrap_err();
+        assert_eq!(line(&refused)[..22], *"blocks:1: refused 7 0 ");
+        start.elapsed()
+    });
+    assert!(times.min().unwrap() < Duration::from_millis(300));
 }
 
 /// A call that is refused before anything is written has no need of room.

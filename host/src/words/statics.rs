@@ -26,15 +26,21 @@ pub(crate) struct Static {
 }
 
 pub(super) fn words(job: &Job, place: usize) -> Option<String> {
-    match statics(&job.compiled, job.statics) {
+    match statics(&job.compiled, job.statics, usize::MAX) {
         Err(fault) => fault.told_at(place),
         // then it is the 17 that comes after 20
         Ok(_) => moved_words(job).filter(|_| place == 0),
     }
 }
 
-/// The statics, or the first entry at fault. None are looked for in mode `No`.
-pub(crate) fn statics(compiled: &Known, mode: ConvertStatics) -> Result<Vec<Static>, Fault> {
+/// The statics, or the first entry at fault. None are looked for in mode `No`. Files of the debug
+/// section may share their entries, so that there are far more than bytes: `most` is how many may be
+/// looked at.
+pub(crate) fn statics(
+    compiled: &Known,
+    mode: ConvertStatics,
+    most: usize,
+) -> Result<Vec<Static>, Fault> {
     let file = compiled.file;
     let section = file
         .section_named(b".mdebug")
@@ -47,6 +53,7 @@ pub(crate) fn statics(compiled: &Known, mode: ConvertStatics) -> Result<Vec<Stat
         statics: vec![],
         counts: HashMap::new(),
         entries: 0,
+        most,
     };
     let debug = file.contents(&section).unwrap_or_default();
     match walk.all_files(debug) {
@@ -64,6 +71,7 @@ struct Walk<'a, 'b> {
     /// How often a name stood above level 1.
     counts: HashMap<&'a [u8], usize>,
     entries: usize,
+    most: usize,
 }
 
 impl<'a> Walk<'a, '_> {
@@ -95,6 +103,9 @@ impl<'a> Walk<'a, '_> {
             let (names, first, count) = (names_at + word(8)?, word(16)?, word(20)?);
             let mut level = 0;
             for symbol in first..first + count {
+                if self.entries == self.most {
+                    return Err(format!("there are more entries than {}", self.most));
+                }
                 let entry = self.entry(symbols_at + 12 * symbol, names, level);
                 level = entry.map_err(|fault| format!("entry {}: {fault}", self.entries))?;
                 self.entries += 1;

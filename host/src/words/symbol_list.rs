@@ -85,7 +85,7 @@ pub(super) fn twice_words(job: &Job, place: usize) -> Option<Told> {
 /// C's, A's, statics; defined ones before undefined.
 fn symbol_list<'a>(job: &Job<'a>) -> Option<Vec<Listed<'a>>> {
     let late = late_words(job).ok()?;
-    let statics = statics(&job.compiled, job.statics).ok()?;
+    let statics = statics(&job.compiled, job.statics, usize::MAX).ok()?;
     let kept = job.compiled.symbols.iter().enumerate();
     let kept = kept
         .filter(|(index, _)| job.keeps(*index))

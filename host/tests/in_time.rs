@@ -1,9 +1,10 @@
-//! Objects whose names share one long string: 4,095 names of 950 KB each are 4 GB to read one by one.
-//! Words and notes on them are there as soon as on other objects of their length.
+//! Objects whose names share one long string, and others that ask for long searches: 4,095 names of
+//! 950 KB each are 4 GB to read one by one. Words and notes on them are there as soon as on other
+//! objects of their length.
 
 mod common;
 
-use common::{block, line, words};
+use common::{block, line, made, words};
 use daphulle::{
     Asked, ConvertStatics, DRAFT_LIMIT, Draft, Error, Inputs, Merge, Refusal, draft, merge, notes,
 };
@@ -252,6 +253,55 @@ fn number_19() {
         );
         check(job, &expected);
     }
+}
+
+/// 100,000 relocations at one place, and 4,000 lines of blocks that might replace it.
+#[test]
+fn number_20() {
+    let job = |length: usize| {
+        let (blocks, entries) = match length {
+            SHORT => (1, 3),
+            _ => (1000, 100_000),
+        };
+        let keys = ["text", "data", "rodata", "bss"];
+        let labels: Vec<_> = (0..blocks)
+            .map(|number| keys.map(|key| format!("_{key}{number}")))
+            .collect();
+        let mut symbols = vec![("kept", ".text", 0, 1), ("_asmpp_x", ".text", 0, 1)];
+        let mut text = String::new();
+        for (number, labels) in (1..).zip(&labels) {
+            text += "desc=\n";
+            for (key, label) in keys.iter().zip(labels) {
+                // the short job has one line, for which A has labels
+                let is_there = blocks > 1 || *key == "text";
+                let value = if is_there {
+                    format!("{label} 4 0")
+                } else {
+                    String::new()
+                };
+                text += &format!("{key}={value}\n");
+                symbols.push((label, ".text", 8 * number, 1));
+            }
+            text += "jtbl=0\nend=\n";
+        }
+        let mut relocations = words(&[0, 1 << 8 | 2]).repeat(entries);
+        relocations.extend(words(&[0, 2 << 8 | 2]));
+        let sections: [(_, &[u8]); 2] = [(".text", &[0; 64]), (".rel.text", &relocations)];
+        let ends = [
+            ("_text0_asm_start", ".text", 8, 1),
+            ("_text0_asm_end", ".text", 12, 1),
+        ];
+        Job {
+            compiled: made(&sections, &symbols, 1),
+            assembled: Some(made(&[(".text", &[0; 64])], &ends, 1)),
+            blocks: text,
+        }
+    };
+    check(
+        job,
+        "c.o: refused 20 1 0: section 2 (`.rel.text`) of the compiled object: its relocation at 0 \
+         uses symbol 2 (`_asmpp_x`) of the compiled object, which is not in the result",
+    );
 }
 
 /// The last of some notes that are told in time.
