@@ -3,8 +3,9 @@
 //! again, by code that is not proved. So what is told is checked against the inputs, and where they
 //! do not show the fault the words are document 01's general clause, never a guess.
 //!
-//! Words take no more time than the inputs have bytes, up to a small factor. Symbols and sections
-//! can share the bytes of their names, and tables their entries: `elf.rs` says what is done there.
+//! Names may share their bytes, and a search for one of thousands must not read them thousands of
+//! times: `elf.rs` says what is done about that. Relocation tables, and files of a debug section, may
+//! share their entries: these are walked over as the call does it, once for each that has them.
 
 mod block_file;
 mod carrying;
@@ -73,8 +74,15 @@ impl Refusal {
     /// A refusal of these inputs, with its file and its words.
     pub fn of(inputs: &Inputs, number: Number, object: Object, place: u64) -> Refusal {
         let told = told(inputs, number, object, place);
-        let Told { file, line, words } =
-            told.unwrap_or_else(|| Told::of(usual_file(number, object), clause(number).into()));
+        let Told { file, line, words } = told.unwrap_or_else(|| {
+            // 7 says its line by itself.
+            let line = usize::try_from(place).ok();
+            Told {
+                file: usual_file(number, object),
+                line: line.filter(|_| number == Number::BlockFile),
+                words: clause(number).into(),
+            }
+        });
         Refusal {
             number,
             object,

@@ -4,29 +4,10 @@
 
 mod common;
 
-use common::{block, line, made, words};
+use common::{block, in_time, line, made, words};
 use daphulle::{
     Asked, ConvertStatics, DRAFT_LIMIT, Draft, Error, Inputs, Merge, Refusal, draft, merge, notes,
 };
-use std::time::{Duration, Instant};
-
-/// The gate has a release build.
-const MOST: Duration = match cfg!(debug_assertions) {
-    true => Duration::from_secs(5),
-    false => Duration::from_millis(300),
-};
-
-/// Something that is done in time, by the quickest of three runs: others use the machine, too.
-fn in_time<T>(work: impl Fn() -> T) -> T {
-    let run = |_| {
-        let start = Instant::now();
-        (work(), start.elapsed())
-    };
-    let runs = (0..3).map(run);
-    let (done, time) = runs.min_by_key(|(_, time)| *time).unwrap();
-    assert!(time < MOST, "{time:?}");
-    done
-}
 
 /// The lengths of the string: the call is asked for an answer with the short one, and words are
 /// asked for with both. The call has its own time, which is not looked at here.

@@ -4,7 +4,7 @@
 mod common;
 
 use common::{Case, block, known_case, known_merge, object, patched, section_field, with_field};
-use daphulle::{Asked, Draft, Inputs, Number, Object, draft, words};
+use daphulle::{Asked, Draft, Inputs, Number, Object, Refusal, draft, words};
 
 /// Checks the line of each refusal: compiled object, block file, line.
 fn check(refusals: &[(Vec<u8>, &[u8], &str)]) {
@@ -487,8 +487,13 @@ fn words_are_not_made_up() {
             let room = usize::MAX;
             for &object in Object::ALL {
                 for place in [0, 1, 4, 60, u64::MAX] {
-                    let words = words(&Inputs { asked, room }, number, object, place);
+                    let inputs = Inputs { asked, room };
+                    let words = words(&inputs, number, object, place);
                     assert_eq!(words, clause, "{place}");
+                    // the place of 7 is its line, whatever the block file has there
+                    let line = Refusal::of(&inputs, number, object, place).line;
+                    let is_line = number == Number::BlockFile;
+                    assert_eq!(line, is_line.then_some(place as usize));
                 }
             }
         }
