@@ -1,6 +1,6 @@
 //! The command line.
 
-use daphulle::ConvertStatics;
+use daphulle::{ConvertStatics, JobFile};
 use std::{
     ffi::{OsStr, OsString},
     os::unix::ffi::OsStrExt,
@@ -28,6 +28,19 @@ pub struct Draft {
     pub output: OsString,
 }
 
+impl Draft {
+    /// What a file is called. A draft has no assembled object, and what it is not given is not at
+    /// fault.
+    pub fn name_of(&self, file: JobFile) -> &OsStr {
+        match file {
+            JobFile::Prelude => self.prelude.as_ref().unwrap_or(&self.compiled),
+            JobFile::Blocks => &self.blocks,
+            JobFile::Output => &self.output,
+            _ => &self.compiled,
+        }
+    }
+}
+
 /// Names of files, and settings.
 #[derive(Debug, PartialEq)]
 pub struct Merge {
@@ -43,6 +56,18 @@ pub struct Merge {
     pub output: OsString,
 }
 
+impl Merge {
+    /// What a file is called. A merge has no prelude.
+    pub fn name_of(&self, file: JobFile) -> &OsStr {
+        match file {
+            JobFile::Assembled => &self.assembled,
+            JobFile::Blocks => &self.blocks,
+            JobFile::Output => &self.output,
+            _ => &self.compiled,
+        }
+    }
+}
+
 /// The options, and whether they have a value.
 const OPTIONS: [(&str, bool); 7] = [
     ("--prelude", true),
@@ -53,6 +78,9 @@ const OPTIONS: [(&str, bool); 7] = [
     ("--strict", false),
     ("-o", true),
 ];
+
+/// The long name of a short option. Those of -h and -V are `--help` and `--version`.
+const LONG: [(&str, &str); 1] = [("--output", "-o")];
 
 /// asm-processor's names of the modes.
 const MODES: [(&str, ConvertStatics); 4] = [
@@ -70,9 +98,9 @@ pub fn parse(words: impl Iterator<Item = OsString>) -> Result<Request, String> {
     while let Some(word) = words.next() {
         if word == "--" {
             operands.extend(words.by_ref());
-        } else if word == "--help" {
+        } else if word == "--help" || word == "-h" {
             return Ok(Request::Help);
-        } else if word == "--version" {
+        } else if word == "--version" || word == "-V" {
             return Ok(Request::Version);
         } else if word == "-" || !word.as_bytes().starts_with(b"-") {
             operands.push(word);
@@ -166,6 +194,9 @@ impl Options {
         next: &mut impl Iterator<Item = OsString>,
     ) -> Result<(), String> {
         let (name, attached) = split(word);
+        let mut long = LONG.into_iter();
+        let short = long.find(|(long, _)| long.as_bytes() == name);
+        let name = short.map_or(name, |(_, short)| short.as_bytes());
         let mut known = OPTIONS.into_iter();
         let Some((option, has_value)) = known.find(|(option, _)| option.as_bytes() == name) else {
             return Err(format!("there is no option {word:?}"));
@@ -238,6 +269,8 @@ mod tests {
             "draft --blocks=B -oO --prelude=P C",
             "-o O draft --prelude P C --blocks B",
             "--prelude P --blocks B -o O -- draft C",
+            "draft C --prelude P --blocks B --output O",
+            "--output=O draft C --prelude P --blocks B",
             "draft --prelude P --blocks B -o O -- C",
         ] {
             assert_eq!(parsed(line), draft(["C", "P", "B", "O"]), "{line}");
@@ -324,10 +357,18 @@ mod tests {
 
     #[test]
     fn help_and_version() {
-        for line in ["--help", "draft --help", "draft C --prelude P --help"] {
+        for line in [
+            "--help",
+            "draft --help",
+            "draft C --prelude P --help",
+            "-h",
+            "merge -h",
+        ] {
             assert_eq!(parsed(line), Ok(Request::Help));
         }
-        assert_eq!(parsed("--version"), Ok(Request::Version));
+        for line in ["--version", "-V", "draft -V"] {
+            assert_eq!(parsed(line), Ok(Request::Version));
+        }
         // a value is no option
         let line = "draft C --prelude --help --blocks --version -o O";
         assert_eq!(parsed(line), draft(["C", "--help", "--version", "O"]));
@@ -347,6 +388,8 @@ mod tests {
             ("draft C -o", "-o has no value"),
             ("draft --prelude P --prelude=P", "--prelude is given twice"),
             ("draft -o O -oO", "-o is given twice"),
+            ("draft -o O --output O", "-o is given twice"),
+            ("draft -hV", "there is no option \"-hV\""),
             ("draft C --preludes P", "there is no option \"--preludes\""),
             ("draft C -p P", "there is no option \"-p\""),
             ("draft C --helpp", "there is no option \"--helpp\""),

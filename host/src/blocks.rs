@@ -121,6 +121,8 @@ pub(crate) fn keys_after(line: Option<&[u8]>) -> Option<&'static [Key]> {
 /// A line `text=` to `bss=` of a block that is not empty.
 #[derive(Clone, Copy)]
 pub(crate) struct Span<'a> {
+    /// Its number in the block file, from 1.
+    pub line: usize,
     pub key: &'static str,
     pub code: Code,
     pub label: &'a [u8],
@@ -148,7 +150,7 @@ const SPANS: [(&str, Code); 4] = [
 /// The blocks of a well-formed file; of another one, what looks like blocks.
 pub(crate) fn blocks(file: &[u8]) -> Vec<Block<'_>> {
     let mut blocks: Vec<Block> = vec![];
-    for line in lines(file).map(bare) {
+    for (index, line) in lines(file).map(bare).enumerate() {
         if let Some(desc) = line.strip_prefix(b"desc=") {
             blocks.push(Block {
                 desc,
@@ -160,7 +162,7 @@ pub(crate) fn blocks(file: &[u8]) -> Vec<Block<'_>> {
         let Some(block) = blocks.last_mut() else {
             continue;
         };
-        block.spans.extend(span(line));
+        block.spans.extend(span(index + 1, line));
         block.dummies.extend(dummy(line));
         if let Some(value) = line.strip_prefix(b"jtbl=") {
             block.jump_table = number(value, NUMBER_LIMIT).unwrap_or(0);
@@ -169,11 +171,12 @@ pub(crate) fn blocks(file: &[u8]) -> Vec<Block<'_>> {
     blocks
 }
 
-fn span(line: &[u8]) -> Option<Span<'_>> {
+fn span(line: usize, text: &[u8]) -> Option<Span<'_>> {
     let mut spans = SPANS.into_iter();
-    let (key, code) = spans.find(|(key, _)| line.starts_with(key.as_bytes()))?;
-    let (label, size, align8) = span_parts(line.get(key.len()..)?)?;
+    let (key, code) = spans.find(|(key, _)| text.starts_with(key.as_bytes()))?;
+    let (label, size, align8) = span_parts(text.get(key.len()..)?)?;
     Some(Span {
+        line,
         key,
         code,
         label,
@@ -239,7 +242,15 @@ mod tests {
         let [f, rest] = &blocks[..] else {
             panic!("two blocks");
         };
-        let read = |span: &Span| (span.key, span.label.to_vec(), span.size, span.align8);
+        let read = |span: &Span| {
+            (
+                span.line,
+                span.key,
+                span.label.to_vec(),
+                span.size,
+                span.align8,
+            )
+        };
         let spans: Vec<_> = f.spans.iter().map(read).collect();
         assert_eq!(f.desc, b"f");
         assert_eq!(
@@ -249,8 +260,8 @@ mod tests {
         assert_eq!(
             spans,
             [
-                ("text=", b"t".to_vec(), 8, 4),
-                ("bss=", b"b".to_vec(), 1, 0)
+                (2, "text=", b"t".to_vec(), 8, 4),
+                (4, "bss=", b"b".to_vec(), 1, 0)
             ]
         );
         assert!(rest.desc.is_empty() && rest.spans.is_empty());

@@ -1,32 +1,39 @@
-//! The exported calls on slices: the one place with `unsafe`.
+//! The exported calls on slices: the one place of the library with `unsafe`.
 
 #![allow(unsafe_code)]
 
 /// The largest compiled or assembled object, prelude or block file, in bytes (docs/SIZES.md).
 pub const FILE_LIMIT: usize = 1_048_576;
 
-/// The least lengths of a draft's working buffers `table` and `places` (docs/SIZES.md).
+/// The least length of a draft's working buffer `table` (docs/SIZES.md).
 pub const BLOCK_TABLE: usize = 49_152;
+/// The least length of a draft's working buffer `places`.
 pub const PLACE_TABLE: usize = 32_768;
 
 /// The longest path of a merge, in bytes (docs/SIZES.md).
 pub const PATH_LIMIT: usize = 255;
 
-/// The least lengths of a merge's working buffers `table`, `places`, `steps` and `index`
-/// (docs/SIZES.md).
+/// The least length of a merge's working buffer `table` (docs/SIZES.md).
 pub const BLOCK_BUFFER: usize = 245_760;
+/// The least length of a merge's working buffer `places`.
 pub const PLACE_BUFFER: usize = 81_920;
+/// The least length of a merge's working buffer `steps`.
 pub const STEP_BUFFER: usize = 459_856;
+/// The least length of a merge's working buffer `index`.
 pub const INDEX_BUFFER: usize = 114_688;
 
 /// What a call gives back, as numbers. Accepted: number, object and place are 0. Refused: the
 /// length is 0, and the others are those of document 01's table.
 #[repr(C)]
-#[derive(Clone, Copy, Debug, PartialEq, Eq)]
+#[derive(Clone, Copy, Debug, PartialEq, Eq, Hash)]
 pub struct Outcome {
+    /// How many bytes of the output are the result.
     pub length: u64,
+    /// The number of the refusal.
     pub number: u32,
+    /// 0 none, 1 C, 2 A.
     pub object: u32,
+    /// What the table says for that number.
     pub place: u64,
 }
 
@@ -108,11 +115,15 @@ pub fn draft_into(
 }
 
 /// What a merge is made of, as the exported call takes it: any bytes, any numbers.
-#[derive(Clone, Copy)]
+#[derive(Clone, Copy, Debug, PartialEq, Eq, Hash)]
 pub struct MergeInputs<'a> {
+    /// C, the compiled object.
     pub compiled: &'a [u8],
+    /// A, the assembled object.
     pub assembled: &'a [u8],
+    /// The block file.
     pub blocks: &'a [u8],
+    /// Stands before the names of statics in mode 3.
     pub path: &'a [u8],
     /// 1 drops trailing debug and gptab sections; 0 does not.
     pub flag: u32,
@@ -121,11 +132,17 @@ pub struct MergeInputs<'a> {
 }
 
 /// The output of a merge and its working buffers.
+#[derive(Debug)]
 pub struct MergeBuffers<'a> {
+    /// The output, of any length.
     pub out: &'a mut [u8],
+    /// At least `BLOCK_BUFFER` bytes.
     pub table: &'a mut [u8],
+    /// At least `PLACE_BUFFER` bytes.
     pub places: &'a mut [u8],
+    /// At least `STEP_BUFFER` bytes.
     pub steps: &'a mut [u8],
+    /// At least `INDEX_BUFFER` bytes.
     pub index: &'a mut [u8],
 }
 

@@ -1,6 +1,7 @@
 //! Reads an object for the words of a refusal and for notes. The bytes may be anything: what cannot
 //! be read is `None`. Names are the gABI's; fields are big-endian, as document 01 asks.
 
+use crate::refusal::JobFile;
 use std::collections::{HashMap, HashSet};
 use std::ffi::CStr;
 
@@ -45,10 +46,53 @@ pub(crate) fn word(bytes: &[u8], at: usize) -> Option<u32> {
     Some(u32::from_be_bytes(*field))
 }
 
-/// The string at an offset of a string table, if it has a zero end.
+/// The string at an offset of a string table, if it has a zero end. For many strings of one table
+/// see `Strings`.
 pub(crate) fn string(table: &[u8], at: u32) -> Option<&[u8]> {
     let rest = table.get(at as usize..)?;
     Some(CStr::from_bytes_until_nul(rest).ok()?.to_bytes())
+}
+
+/// A string table in hand. Thousands of names may share one long string, so the ends are looked for
+/// once: a name is then found without a walk along its bytes.
+pub(crate) struct Strings<'a> {
+    table: &'a [u8],
+    /// Where its zero bytes are.
+    ends: Vec<usize>,
+}
+
+impl<'a> Strings<'a> {
+    pub fn of(table: &'a [u8]) -> Strings<'a> {
+        let bytes = table.iter().enumerate();
+        let zeros = bytes.filter(|(_, byte)| **byte == 0).map(|(at, _)| at);
+        Strings {
+            table,
+            ends: zeros.collect(),
+        }
+    }
+
+    /// The string at an offset, if it has a zero end.
+    pub fn get(&self, at: u32) -> Option<&'a [u8]> {
+        let at = at as usize;
+        let end = self.ends.partition_point(|&end| end < at);
+        self.table.get(at..*self.ends.get(end)?)
+    }
+}
+
+/// The first of these that has a name. In one string table two names of the same length share bytes
+/// only where they start at the same byte. So each start is compared once, and all that is compared
+/// is no more than the tables hold.
+pub(crate) fn first_named<'n, T>(
+    items: impl IntoIterator<Item = T>,
+    name_of: impl Fn(&T) -> Option<&'n [u8]>,
+    name: &[u8],
+) -> Option<T> {
+    let mut compared = HashSet::new();
+    items.into_iter().find(|item| {
+        name_of(item).is_some_and(|found| {
+            found.len() == name.len() && compared.insert(found.as_ptr()) && found == name
+        })
+    })
 }
 
 /// What a section index that is none says of its symbol.
@@ -91,6 +135,11 @@ pub(crate) struct ObjectFile<'a> {
 }
 
 impl<'a> ObjectFile<'a> {
+    pub fn new(file: JobFile, bytes: &'a [u8]) -> ObjectFile<'a> {
+        let title = file.title();
+        ObjectFile { title, bytes }
+    }
+
     pub fn section_count(self) -> Option<usize> {
         Some(half(self.bytes, E_SHNUM)? as usize)
     }
@@ -147,11 +196,21 @@ impl<'a> ObjectFile<'a> {
         (0..).map_while(move |index| Some((index, self.section(index)?)))
     }
 
-    /// "The" section of a name: the first.
+    /// All section names in hand.
+    pub fn section_strings(self) -> Option<Strings<'a>> {
+        Some(Strings::of(self.strings(self.section_names_index()?)?))
+    }
+
+    /// "The" section of a name without a zero: the first.
     pub fn section_named(self, name: &[u8]) -> Option<usize> {
         let strings = self.strings(self.section_names_index()?)?;
         let mut sections = self.sections();
-        let is_named = |section: &SectionHeader| string(strings, section.sh_name) == Some(name);
+        // As many bytes as the name has are looked at, however long the other is.
+        let is_named = |section: &SectionHeader| {
+            let rest = strings.get(section.sh_name as usize..);
+            let behind = rest.and_then(|rest| rest.strip_prefix(name));
+            behind.is_some_and(|behind| behind.first() == Some(&0))
+        };
         let (index, _) = sections.find(|(_, section)| is_named(section))?;
         Some(index)
     }
@@ -185,7 +244,7 @@ impl<'a> ObjectFile<'a> {
         let (_, table) = self.symbol_table()?;
         Some(Symbols {
             entries: self.contents(&table)?,
-            strings: self.strings(table.sh_link as usize)?,
+            strings: Strings::of(self.strings(table.sh_link as usize)?),
         })
     }
 }
@@ -193,7 +252,7 @@ impl<'a> ObjectFile<'a> {
 /// A symbol table in hand, with its strings.
 pub(crate) struct Symbols<'a> {
     entries: &'a [u8],
-    strings: &'a [u8],
+    strings: Strings<'a>,
 }
 
 #[derive(Clone, Copy)]
@@ -218,29 +277,37 @@ pub(crate) struct Relocation {
 impl<'a> Symbols<'a> {
     pub fn iter(&self) -> impl Iterator<Item = Symbol<'a>> {
         let entries = self.entries.chunks_exact(SYMBOL_SIZE);
-        entries.filter_map(|entry| {
-            Some(Symbol {
-                entry,
-                name: string(self.strings, word(entry, 0)?),
-                st_value: word(entry, 4)?,
-                st_size: word(entry, 8)?,
-                st_shndx: half(entry, 14)?,
-                is_local: byte(entry, 12)? >> 4 == 0,
-            })
+        entries.filter_map(|entry| self.read(entry))
+    }
+
+    pub fn get(&self, index: usize) -> Option<Symbol<'a>> {
+        self.read(self.entries.chunks_exact(SYMBOL_SIZE).nth(index)?)
+    }
+
+    fn read(&self, entry: &'a [u8]) -> Option<Symbol<'a>> {
+        Some(Symbol {
+            entry,
+            name: self.strings.get(word(entry, 0)?),
+            st_value: word(entry, 4)?,
+            st_size: word(entry, 8)?,
+            st_shndx: half(entry, 14)?,
+            is_local: byte(entry, 12)? >> 4 == 0,
         })
     }
 
-    /// The first symbol of each label that has one; `None` where a name has no zero end. Names of
-    /// other lengths than the labels have are not looked at, as they may share one long string.
+    /// The first symbol of each label that has one; `None` where a name has no zero end. Names may
+    /// share one long string: those of other lengths than the labels have are not looked at, and of
+    /// those that start at the same byte only the first is. What is left to hash has 64 MiB at
+    /// most: 4,096 names of 16 KiB, of 64 lengths, in 64 strings.
     pub fn first_of<'l>(
         &self,
         labels: impl Iterator<Item = &'l [u8]>,
     ) -> Option<HashMap<&'a [u8], Symbol<'a>>> {
         let lengths: HashSet<_> = labels.map(<[u8]>::len).collect();
-        let mut first = HashMap::new();
+        let (mut first, mut starts) = (HashMap::new(), HashSet::new());
         for symbol in self.iter() {
             let name = symbol.name?;
-            if lengths.contains(&name.len()) {
+            if lengths.contains(&name.len()) && starts.insert(name.as_ptr()) {
                 first.entry(name).or_insert(symbol);
             }
         }

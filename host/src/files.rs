@@ -5,6 +5,7 @@ use std::{
     ffi::OsStr,
     fs::{self, File, OpenOptions},
     io::{self, ErrorKind, Read, Write},
+    os::fd::AsFd,
     path::{Path, PathBuf},
     process,
 };
@@ -67,13 +68,34 @@ fn is_replaceable(path: &Path) -> bool {
     fs::metadata(path).map_or(true, |there| there.is_file())
 }
 
-/// Writes to standard output.
+/// Writes to standard output. Not through `io::stdout`, which takes bytes for written where it is
+/// not open for writing.
 pub fn print(bytes: &[u8]) -> Result<(), String> {
-    let mut output = io::stdout().lock();
+    let output = io::stdout().as_fd().try_clone_to_owned();
     output
-        .write_all(bytes)
-        .and_then(|()| output.flush())
+        .and_then(|output| File::from(output).write_all(bytes))
         .map_err(|error| format!("cannot write standard output: {error}"))
+}
+
+/// A name at the start of a line, on that line: as it is, so that it can be found again; but escaped
+/// where it is not UTF-8 or holds what is not printable.
+pub fn shown(name: &OsStr) -> String {
+    // These are printable, and escaped only because of quotes around them.
+    let is_plain = |text: &str| {
+        let text = text.replace(['"', '\'', '\\'], "_");
+        text.escape_debug().eq(text.chars())
+    };
+    match name.to_str() {
+        Some("") => "\"\"".into(),
+        Some(text) if is_plain(text) => text.into(),
+        _ => {
+            let quoted = format!("{name:?}");
+            let text = quoted
+                .strip_prefix('"')
+                .and_then(|text| text.strip_suffix('"'));
+            text.unwrap_or(&quoted).into()
+        }
+    }
 }
 
 /// A new file in the same folder takes the place of the path once it is whole.
@@ -109,5 +131,30 @@ impl Drop for Temporary {
     fn drop(&mut self) {
         // After the rename nothing has this name.
         let _ = fs::remove_file(&self.0);
+    }
+}
+
+#[cfg(test)]
+mod tests {
+    use super::shown;
+    use std::{ffi::OsStr, os::unix::ffi::OsStrExt};
+
+    #[test]
+    fn names_on_one_line() {
+        for (name, line) in [
+            (&b"c.o"[..], "c.o"),
+            (b"d/c \"2\" \\n's.o", "d/c \"2\" \\n's.o"),
+            ("gr\u{fc}n/e\u{301}.o".as_bytes(), "gr\u{fc}n/e\u{301}.o"),
+            (b"", "\"\""),
+            (b"\"", "\""),
+            (b"\xff\nc", "\\xFF\\nc"),
+            (b"a\x1b[31m", "a\\u{1b}[31m"),
+            (b"a\nb\\c", "a\\nb\\\\c"),
+            ("a\u{85}b".as_bytes(), "a\\u{85}b"),
+            ("a\u{2028}b".as_bytes(), "a\\u{2028}b"),
+            ("a\u{202e}b".as_bytes(), "a\\u{202e}b"),
+        ] {
+            assert_eq!(shown(OsStr::from_bytes(name)), line);
+        }
     }
 }

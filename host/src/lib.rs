@@ -6,7 +6,7 @@
 //! `draft` and `merge` lend all buffers. `call::draft_into` and `call::merge_into` are the exported
 //! calls themselves, on buffers of the caller's.
 
-#![deny(unsafe_code)]
+#![deny(missing_docs, unsafe_code)]
 // The words and the notes read arbitrary bytes: nothing there may panic.
 #![cfg_attr(
     not(test),
@@ -24,17 +24,64 @@ mod codes;
 mod elf;
 mod notes;
 mod refusal;
+mod room;
 mod words;
 
 use call::{MergeBuffers, MergeInputs, Outcome};
 pub use notes::{Note, NoteKind, notes};
-pub use refusal::{Answer, Broken, ConvertStatics, Error, Number, Object, Refusal};
+pub use refusal::{Answer, Broken, ConvertStatics, Error, JobFile, Number, Object, Refusal};
+pub use room::{draft_room, merge_room};
 pub use words::{Inputs, path_fault, words};
 
 // The example in the README is compiled with the tests.
 #[cfg(doctest)]
 #[doc = include_str!("../README.md")]
 struct Readme;
+
+// Enums that may grow ask a caller for more than the values of today: the first of each two is
+// compiled with the tests, the second must not be.
+/// ```
+/// fn seen(error: daphulle::Error) -> u32 {
+///     match error {
+///         daphulle::Error::Refused(_) => 1,
+///         daphulle::Error::Broken(_) => 2,
+///         _ => 3,
+///     }
+/// }
+/// ```
+/// ```compile_fail
+/// fn seen(error: daphulle::Error) -> u32 {
+///     match error {
+///         daphulle::Error::Refused(_) => 1,
+///         daphulle::Error::Broken(_) => 2,
+///     }
+/// }
+/// ```
+/// ```
+/// use daphulle::Number::*;
+/// fn seen(number: daphulle::Number) -> u32 {
+///     match number {
+///         Limits | FileHeader | SectionHeader | SectionName | SymbolTable | RelocationTable => 1,
+///         BlockFile | BlockPlace | BlockAlignment | Clash | MissingSection | BlockLabels => 2,
+///         LateLabels | LateStep | SymbolSection | LateSymbol | Statics | LooseSymbol => 3,
+///         NameTwice | LostEntry | OutputRoom => 4,
+///         _ => 5,
+///     }
+/// }
+/// ```
+/// ```compile_fail
+/// use daphulle::Number::*;
+/// fn seen(number: daphulle::Number) -> u32 {
+///     match number {
+///         Limits | FileHeader | SectionHeader | SectionName | SymbolTable | RelocationTable => 1,
+///         BlockFile | BlockPlace | BlockAlignment | Clash | MissingSection | BlockLabels => 2,
+///         LateLabels | LateStep | SymbolSection | LateSymbol | Statics | LooseSymbol => 3,
+///         NameTwice | LostEntry | OutputRoom => 4,
+///     }
+/// }
+/// ```
+#[cfg(doctest)]
+struct Growing;
 
 /// The prelude that the command uses where none is given: what GNU `as` needs for a draft.
 pub const PRELUDE: &[u8] = include_bytes!("prelude.s");
@@ -49,31 +96,39 @@ pub const DRAFT_LIMIT: usize = 16_777_216;
 pub const MERGE_LIMIT: usize = 16_777_216;
 
 /// What a draft is made of.
-#[derive(Clone, Copy)]
+#[derive(Clone, Copy, Debug, PartialEq, Eq, Hash)]
 pub struct Draft<'a> {
+    /// C, the compiled object.
     pub compiled: &'a [u8],
+    /// What the draft begins with.
     pub prelude: &'a [u8],
+    /// The block file.
     pub blocks: &'a [u8],
 }
 
 /// What a merge is made of.
-#[derive(Clone, Copy)]
+#[derive(Clone, Copy, Debug, PartialEq, Eq, Hash)]
 pub struct Merge<'a> {
+    /// C, the compiled object.
     pub compiled: &'a [u8],
-    /// What the assembler made of the draft.
+    /// A, what the assembler made of the draft.
     pub assembled: &'a [u8],
+    /// The block file.
     pub blocks: &'a [u8],
     /// Stands before the names of statics in `ConvertStatics::GlobalWithFilename`.
     pub path: &'a [u8],
     /// Drops trailing debug and gptab sections of the compiled object.
     pub drop_mdebug_gptab: bool,
+    /// What becomes of C's statics.
     pub convert_statics: ConvertStatics,
 }
 
 /// What a call is asked for.
-#[derive(Clone, Copy)]
+#[derive(Clone, Copy, Debug, PartialEq, Eq, Hash)]
 pub enum Asked<'a> {
+    /// A draft.
     Draft(Draft<'a>),
+    /// A merge.
     Merge(Merge<'a>),
 }
 
@@ -92,16 +147,12 @@ pub fn draft_within(
 ) -> Result<Vec<u8>, Error> {
     let mut table = vec![0; call::BLOCK_TABLE];
     let mut places = vec![0; call::PLACE_TABLE];
-    // Room for most drafts: the padding before a place has a byte for each of C's, and the lines
-    // of a block are about as long as its text.
-    let lines = blocks.len().saturating_mul(2);
-    let guess = lines.saturating_add(compiled.len() + prelude.len());
     let asked = Asked::Draft(Draft {
         compiled,
         prelude,
         blocks,
     });
-    result(limit, guess, asked, |out| {
+    result(limit, asked, |out| {
         call::draft_into(compiled, prelude, blocks, out, &mut table, &mut places)
     })
 }
@@ -126,9 +177,7 @@ pub fn merge_within(limit: usize, merge: &Merge) -> Result<Vec<u8>, Error> {
         flag: merge.drop_mdebug_gptab.into(),
         mode: merge.convert_statics.code(),
     };
-    // Room for most merges: what A adds is a part of it, and the names of statics stand in C.
-    let guess = merge.compiled.len().saturating_mul(2) + merge.assembled.len();
-    result(limit, guess, Asked::Merge(*merge), |out| {
+    result(limit, Asked::Merge(*merge), |out| {
         let buffers = MergeBuffers {
             out,
             table: &mut table,
@@ -140,15 +189,18 @@ pub fn merge_within(limit: usize, merge: &Merge) -> Result<Vec<u8>, Error> {
     })
 }
 
-/// The result of a call in an output of its length. It is called with a first guess of that, and
-/// once more where 21 says the exact one.
+/// The result of a call in an output of its length. It is called with room for it, and once more
+/// where 21 says that this was not enough.
 fn result(
     limit: usize,
-    guess: usize,
     asked: Asked,
     mut call: impl FnMut(&mut [u8]) -> Outcome,
 ) -> Result<Vec<u8>, Error> {
-    let mut out = vec![0; guess.min(limit)];
+    let room = match asked {
+        Asked::Draft(draft) => draft_room(draft.compiled, draft.prelude, draft.blocks),
+        Asked::Merge(merge) => merge_room(&merge),
+    };
+    let mut out = vec![0; room.min(limit)];
     let mut answer = call(&mut out).answer(out.len())?;
     if let Answer::Refused(Number::OutputRoom, _, needed) = answer
         && let Ok(needed) = usize::try_from(needed)
@@ -164,13 +216,60 @@ fn result(
         }
         Answer::Refused(number, object, place) => {
             let inputs = Inputs { asked, room: limit };
-            let words = words(&inputs, number, object, place);
-            Err(Error::Refused(Refusal {
+            Err(Refusal::of(&inputs, number, object, place).into())
+        }
+    }
+}
+
+#[cfg(test)]
+mod tests {
+    use super::{
+        Asked, ConvertStatics, Draft, Merge, call::Outcome, draft_room, merge_room, result,
+    };
+
+    const DRAFT: Draft = Draft {
+        compiled: b"",
+        prelude: b"",
+        blocks: b"",
+    };
+    const MERGE: Merge = Merge {
+        compiled: b"",
+        assembled: b"",
+        blocks: b"",
+        path: b"",
+        drop_mdebug_gptab: false,
+        convert_statics: ConvertStatics::No,
+    };
+
+    /// The length of a result, where a call needs so many bytes, and how often it was made.
+    fn made(limit: usize, asked: Asked, needed: usize) -> (Option<usize>, usize) {
+        let mut calls = 0;
+        let made = result(limit, asked, |out| {
+            calls += 1;
+            let (length, number, place) = match out.len() >= needed {
+                true => (needed as u64, 0, 0),
+                false => (0, 21, needed as u64),
+            };
+            Outcome {
+                length,
                 number,
-                object,
+                object: 0,
                 place,
-                words,
-            }))
+            }
+        });
+        (made.ok().map(|out| out.len()), calls)
+    }
+
+    #[test]
+    fn a_call_that_has_room_is_made_once() {
+        let draft = (Asked::Draft(DRAFT), draft_room(b"", b"", b""));
+        let merge = (Asked::Merge(MERGE), merge_room(&MERGE));
+        for (asked, room) in [draft, merge] {
+            assert_eq!(made(1000, asked, room), (Some(room), 1));
+            assert_eq!(made(1000, asked, 0), (Some(0), 1));
+            assert_eq!(made(room - 1, asked, room), (None, 1));
+            // room that is too short is no refusal
+            assert_eq!(made(1000, asked, room + 1), (Some(room + 1), 2));
         }
     }
 }

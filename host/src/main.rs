@@ -1,15 +1,17 @@
 //! The command `daphulle`. src/help.txt says what it does.
 //!
-//! Messages show names with `{:?}`: a name may hold an LF, and a message is one line. A note begins
-//! with the name of C, without the quotes.
+//! A refusal or a note begins with the name of the file that it is about, and with the line where
+//! there is one, as editors read it: `blocks:12: `. Other messages begin with `daphulle: `, and show
+//! names with `{:?}`: a name may hold an LF, and a message is one line.
 
-#![forbid(unsafe_code)]
+#![deny(unsafe_code)]
 
 mod arguments;
 mod files;
+mod standard;
 
 use arguments::{Draft, Merge, Request};
-use daphulle::{Error, Number, PRELUDE, Refusal};
+use daphulle::{Error, JobFile, Number, PRELUDE, Refusal};
 use std::{
     env,
     ffi::{OsStr, OsString},
@@ -18,22 +20,25 @@ use std::{
     process::ExitCode,
 };
 
+/// What `--version` prints. Commit and kit are those that build.rs found.
+const VERSION: &str = concat!(
+    "daphulle ",
+    env!("CARGO_PKG_VERSION"),
+    "\ncommit ",
+    env!("DAPHULLE_COMMIT"),
+    "\nkit ",
+    env!("DAPHULLE_KIT"),
+    "\n"
+);
+
 /// Why the command ends without a result.
 enum Stop {
-    Refused(Refusal),
+    /// Refused; the line begins with this.
+    Refused(String, Refusal),
     /// There are notes, and `--strict` takes them for errors. They are told.
     Noted,
     /// Wrong usage, or a file that cannot be read or written.
     Failed(String),
-}
-
-impl From<Error> for Stop {
-    fn from(error: Error) -> Stop {
-        match error {
-            Error::Refused(refusal) => Stop::Refused(refusal),
-            Error::Broken(broken) => Stop::Failed(broken.to_string()),
-        }
-    }
 }
 
 impl From<String> for Stop {
@@ -46,11 +51,11 @@ fn main() -> ExitCode {
     let (status, line) = match run(env::args_os().skip(1)) {
         Ok(()) => return ExitCode::SUCCESS,
         Err(Stop::Noted) => return ExitCode::from(3),
-        Err(Stop::Refused(refusal)) => (1, refusal.to_string()),
-        Err(Stop::Failed(line)) => (2, line),
+        Err(Stop::Refused(start, refusal)) => (1, format!("{start}: {refusal}")),
+        Err(Stop::Failed(line)) => (2, format!("daphulle: {line}")),
     };
     // Not `eprintln`, which panics where standard error is closed: the status still tells.
-    let _ = writeln!(io::stderr(), "daphulle: {line}");
+    let _ = writeln!(io::stderr(), "{line}");
     ExitCode::from(status)
 }
 
@@ -58,9 +63,7 @@ fn run(words: impl Iterator<Item = OsString>) -> Result<(), Stop> {
     let usage = |line| format!("{line} (see daphulle --help)");
     match arguments::parse(words).map_err(usage)? {
         Request::Help => files::print(include_bytes!("help.txt"))?,
-        Request::Version => {
-            files::print(concat!("daphulle ", env!("CARGO_PKG_VERSION"), "\n").as_bytes())?;
-        }
+        Request::Version => files::print(VERSION.as_bytes())?,
         Request::Prelude(output) => files::write(&output, PRELUDE)?,
         Request::Draft(draft) => make_draft(&draft)?,
         Request::Merge(merge) => make_merge(&merge)?,
@@ -75,7 +78,8 @@ fn make_draft(draft: &Draft) -> Result<(), Stop> {
         None => PRELUDE.to_vec(),
     };
     let blocks = files::read(&draft.blocks)?;
-    let text = daphulle::draft(&compiled, &prelude, &blocks)?;
+    let text = daphulle::draft(&compiled, &prelude, &blocks)
+        .map_err(|error| stop(error, |file| draft.name_of(file)))?;
     tell_notes(&draft.compiled, &compiled, &blocks, draft.strict)?;
     Ok(files::write(&draft.output, &text)?)
 }
@@ -93,23 +97,38 @@ fn make_merge(merge: &Merge) -> Result<(), Stop> {
         drop_mdebug_gptab: merge.drop_mdebug_gptab,
         convert_statics: merge.convert_statics,
     });
-    let object = match result {
-        Err(Error::Refused(refusal)) if merge.path.is_none() => {
-            return Err(Stop::Refused(with_path_named(refusal, path)));
-        }
-        other => other?,
-    };
+    let object = result.map_err(|error| {
+        let error = match error {
+            Error::Refused(refusal) if merge.path.is_none() => {
+                with_path_named(refusal, path).into()
+            }
+            other => other,
+        };
+        stop(error, |file| merge.name_of(file))
+    })?;
     tell_notes(&merge.compiled, &compiled, &blocks, merge.strict)?;
     Ok(files::write(&merge.output, &object)?)
+}
+
+/// The end of a job without a result, told with the names of its files.
+fn stop<'n>(error: Error, name_of: impl Fn(JobFile) -> &'n OsStr) -> Stop {
+    match error {
+        Error::Refused(refusal) => {
+            let mut start = files::shown(name_of(refusal.file));
+            if let Some(line) = refusal.line {
+                start += &format!(":{line}");
+            }
+            Stop::Refused(start, refusal)
+        }
+        other => Stop::Failed(other.to_string()),
+    }
 }
 
 /// Tells the notes on an accepted job, a line for each. Strict, they are errors.
 fn tell_notes(name: &OsStr, compiled: &[u8], blocks: &[u8], strict: bool) -> Result<(), Stop> {
     let notes = daphulle::notes(compiled, blocks);
     let word = if strict { "error" } else { "note" };
-    let name = format!("{name:?}");
-    let name = name.strip_prefix('"').unwrap_or(&name);
-    let name = name.strip_suffix('"').unwrap_or(name);
+    let name = files::shown(name);
     for note in &notes {
         // Standard error may be closed, as above.
         let _ = writeln!(io::stderr(), "{name}: {word}: {note}");

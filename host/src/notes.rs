@@ -2,12 +2,15 @@
 //! not proved, and no answer depends on them.
 
 use crate::blocks::{Span, blocks};
-use crate::elf::{self, ObjectFile, Symbol};
+use crate::codes::Code;
+use crate::elf::{self, ObjectFile, Strings, Symbol};
+use crate::refusal::JobFile;
 use crate::words::shown;
 use std::fmt;
 
-/// What a note is about.
-#[derive(Clone, Copy, Debug, PartialEq, Eq)]
+/// What a note is about. More may come.
+#[derive(Clone, Copy, Debug, PartialEq, Eq, Hash)]
+#[non_exhaustive]
 pub enum NoteKind {
     /// A label is not in C, and the rest of its block is left out.
     LeftOut,
@@ -18,13 +21,15 @@ pub enum NoteKind {
 }
 
 /// A note on a block. It is shown as `block 3 (DESC): words`, on one line.
-#[derive(Clone, Debug, PartialEq, Eq)]
+#[derive(Clone, Debug, PartialEq, Eq, Hash)]
 pub struct Note {
+    /// What it is about.
     pub kind: NoteKind,
     /// Its number, from 0.
     pub block: usize,
     /// The start of its description, with what is not printable escaped; it may be empty.
     pub desc: String,
+    /// What is to be noted.
     pub words: String,
 }
 
@@ -41,10 +46,8 @@ impl fmt::Display for Note {
 /// The notes on a draft or a merge of a compiled object and a block file, in the order of the block
 /// file. They are meant for one that was accepted; of other bytes they tell what can be read.
 pub fn notes(compiled: &[u8], block_file: &[u8]) -> Vec<Note> {
-    let object = ObjectFile {
-        title: "the compiled object",
-        bytes: compiled,
-    };
+    let object = ObjectFile::new(JobFile::Compiled, compiled);
+    let sections = Sections::of(object);
     let blocks = blocks(block_file);
     let labels = blocks.iter().flat_map(|block| &block.spans);
     let labels = labels.map(|span| span.label);
@@ -76,7 +79,7 @@ pub fn notes(compiled: &[u8], block_file: &[u8]) -> Vec<Note> {
                 let words = format!("symbol {label} has size {st_size}, the block {size}");
                 add(NoteKind::OtherSize, words);
             }
-            if let Some(section) = other_section(object, span, symbol) {
+            if let Some(section) = sections.other(span, symbol) {
                 add(
                     NoteKind::OtherSection,
                     format!("symbol {label} is {section}"),
@@ -87,20 +90,41 @@ pub fn notes(compiled: &[u8], block_file: &[u8]) -> Vec<Note> {
     notes
 }
 
-/// Where the symbol of a line is, if that is not the line's section.
-fn other_section(object: ObjectFile, span: &Span, symbol: &Symbol) -> Option<String> {
-    if let Some(reserved) = elf::no_section(symbol.st_shndx) {
-        return Some(reserved);
-    }
-    let (index, name) = (symbol.st_shndx as usize, span.code.name());
-    if object.section_named(name.as_bytes()) == Some(index) {
-        return None;
-    }
-    Some(match object.section_name(index) {
-        None | Some([]) => format!("in section {index}"),
-        Some(other) if other == name.as_bytes() => {
-            format!("in section {name}, but not in the first of that name")
+/// C's sections, looked up once for all lines: their names may share one long string.
+struct Sections<'a> {
+    object: ObjectFile<'a>,
+    names: Option<Strings<'a>>,
+    /// "The" sections of the codes that blocks have lines for.
+    own: [Option<usize>; 4],
+}
+
+impl<'a> Sections<'a> {
+    fn of(object: ObjectFile<'a>) -> Sections<'a> {
+        Sections {
+            object,
+            names: object.section_strings(),
+            own: Code::LINES.map(|code| object.section_named(code.name().as_bytes())),
         }
-        Some(other) => format!("in section {}", shown(other)),
-    })
+    }
+
+    /// Where the symbol of a line is, if that is not the line's section.
+    fn other(&self, span: &Span, symbol: &Symbol) -> Option<String> {
+        if let Some(reserved) = elf::no_section(symbol.st_shndx) {
+            return Some(reserved);
+        }
+        let (index, name) = (symbol.st_shndx as usize, span.code.name());
+        if self.own.get(span.code as usize) == Some(&Some(index)) {
+            return None;
+        }
+        let header = self.object.section(index);
+        let names = self.names.as_ref();
+        let other = header.and_then(|header| names?.get(header.sh_name));
+        Some(match other {
+            None | Some([]) => format!("in section {index}"),
+            Some(other) if other == name.as_bytes() => {
+                format!("in section {name}, but not in the first of that name")
+            }
+            Some(other) => format!("in section {}", shown(other)),
+        })
+    }
 }

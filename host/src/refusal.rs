@@ -8,12 +8,13 @@ use std::{error, fmt};
 macro_rules! codes {
     ($(#[$about:meta])* $name:ident { $($(#[$note:meta])* $value:ident = $code:literal,)* }) => {
         $(#[$about])*
-        #[derive(Clone, Copy, Debug, PartialEq, Eq)]
+        #[derive(Clone, Copy, Debug, PartialEq, Eq, Hash)]
         pub enum $name {
             $($(#[$note])* $value = $code,)*
         }
 
         impl $name {
+            /// All of them, in the order of their codes.
             pub const ALL: &[$name] = &[$($name::$value,)*];
 
             /// Document 01's code.
@@ -33,28 +34,50 @@ macro_rules! codes {
 }
 
 codes! {
-    /// The rows of document 01's table. The draft gives 1 to 9 and 21, the merge all.
+    /// The rows of document 01's table. The draft gives 1 to 9 and 21, the merge all. More may come.
+    #[non_exhaustive]
     Number {
+        /// An input is over its limit, a setting is unknown, a working buffer is too short.
         Limits = 1,
+        /// The file header.
         FileHeader = 2,
+        /// The section count, or a section header.
         SectionHeader = 3,
+        /// The table of section names, or a name of it.
         SectionName = 4,
+        /// The symbol table, or a symbol.
         SymbolTable = 5,
+        /// A relocation table.
         RelocationTable = 6,
+        /// A line of the block file.
         BlockFile = 7,
+        /// A block's size is 0, or its place is below the end of the one before.
         BlockPlace = 8,
+        /// A block's align8 does not fit its place.
         BlockAlignment = 9,
+        /// A relocation table that cannot be carried, or a reference to a dropped section.
         Clash = 10,
+        /// A section is missing or too short, or a .text place or size is no multiple of 4.
         MissingSection = 11,
+        /// A block's labels are not at its place in A.
         BlockLabels = 12,
+        /// The late labels, or the length between them.
         LateLabels = 13,
+        /// A late word or a jump table finds no place.
         LateStep = 14,
+        /// A symbol of A has no section in the result.
         SymbolSection = 15,
+        /// A symbol of .late_rodata is at no late word.
         LateSymbol = 16,
+        /// The debug section.
         Statics = 17,
+        /// A symbol is local and undefined, or neither named nor local.
         LooseSymbol = 18,
+        /// A name is defined at two places.
         NameTwice = 19,
+        /// A relocation leads nowhere.
         LostEntry = 20,
+        /// The output is too short.
         OutputRoom = 21,
     }
 }
@@ -62,6 +85,7 @@ codes! {
 codes! {
     /// The object that a refusal is about.
     Object {
+        /// None of them.
         None = 0,
         /// C, the compiled object.
         Compiled = 1,
@@ -73,23 +97,67 @@ codes! {
 codes! {
     /// What a merge makes of the statics that a debug section names: asm-processor's modes.
     ConvertStatics {
+        /// Nothing: the debug section is not read.
         No = 0,
+        /// Local symbols.
         Local = 1,
+        /// Global symbols.
         Global = 2,
         /// Global, with the path and a colon before each name.
         GlobalWithFilename = 3,
     }
 }
 
-/// A refused call. It is shown as `refused NUMBER OBJECT PLACE: words`, on one line.
-#[derive(Clone, Debug, PartialEq, Eq)]
+/// A file of a job.
+#[derive(Clone, Copy, Debug, PartialEq, Eq, Hash)]
+#[non_exhaustive]
+pub enum JobFile {
+    /// C, the compiled object.
+    Compiled,
+    /// A, the assembled object.
+    Assembled,
+    /// The prelude of a draft.
+    Prelude,
+    /// The block file.
+    Blocks,
+    /// Where the result goes.
+    Output,
+}
+
+impl JobFile {
+    /// What words call it.
+    pub const fn title(self) -> &'static str {
+        match self {
+            JobFile::Compiled => "the compiled object",
+            JobFile::Assembled => "the assembled object",
+            JobFile::Prelude => "the prelude",
+            JobFile::Blocks => "the block file",
+            JobFile::Output => "the output",
+        }
+    }
+}
+
+/// A refused call. It is shown as `refused NUMBER OBJECT PLACE: words`, on one line. What the files
+/// are called is known to the caller alone, who may put the name of `file` and the `line` in front.
+#[derive(Clone, Debug, PartialEq, Eq, Hash)]
+#[non_exhaustive]
 pub struct Refusal {
+    /// The row of document 01's table.
     pub number: Number,
+    /// The object that the row gives.
     pub object: Object,
+    /// The place that the row gives.
     pub place: u64,
+    /// The file that it is about.
+    pub file: JobFile,
+    /// The line of that file, from 1: for `Number::BlockFile`, `Number::BlockPlace` and
+    /// `Number::BlockAlignment`.
+    pub line: Option<usize>,
     /// What is at fault, as a person would name it.
     pub words: String,
 }
+
+impl error::Error for Refusal {}
 
 impl fmt::Display for Refusal {
     fn fmt(&self, f: &mut fmt::Formatter) -> fmt::Result {
@@ -104,8 +172,10 @@ impl fmt::Display for Refusal {
 
 /// The linked library gave an answer that is none of document 01's, so it is not the proved one.
 /// This is an error of its own, not a `Number` for "unknown": a refusal always has a true meaning.
-#[derive(Clone, Copy, Debug, PartialEq, Eq)]
+#[derive(Clone, Copy, Debug, PartialEq, Eq, Hash)]
 pub struct Broken(pub Outcome);
+
+impl error::Error for Broken {}
 
 impl fmt::Display for Broken {
     fn fmt(&self, f: &mut fmt::Formatter) -> fmt::Result {
@@ -123,10 +193,13 @@ impl fmt::Display for Broken {
     }
 }
 
-/// Why there is no result.
-#[derive(Clone, Debug, PartialEq, Eq)]
+/// Why there is no result. It is shown as what it holds.
+#[derive(Clone, Debug, PartialEq, Eq, Hash)]
+#[non_exhaustive]
 pub enum Error {
+    /// The call was refused.
     Refused(Refusal),
+    /// The linked library is not the proved one.
     Broken(Broken),
 }
 
@@ -147,10 +220,21 @@ impl From<Broken> for Error {
     }
 }
 
+impl From<Refusal> for Error {
+    fn from(refusal: Refusal) -> Error {
+        Error::Refused(refusal)
+    }
+}
+
 /// An outcome that document 01 has.
-#[derive(Clone, Copy, Debug, PartialEq, Eq)]
+#[derive(Clone, Copy, Debug, PartialEq, Eq, Hash)]
 pub enum Answer {
-    Accepted { length: usize },
+    /// There is a result.
+    Accepted {
+        /// Its bytes are the first of the output.
+        length: usize,
+    },
+    /// There is none: number, object and place.
     Refused(Number, Object, u64),
 }
 

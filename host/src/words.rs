@@ -1,7 +1,11 @@
-//! The words of a refusal: one line that names what is at fault as a person would. The library
-//! gives a number and a place; the words are read from the inputs again, by code that is not
-//! proved. So what is told is checked against the inputs, and where they do not show the fault
-//! the words are document 01's general clause, never a guess.
+//! The words of a refusal: one line that names what is at fault as a person would, with the file
+//! that it is about. The library gives a number and a place; the words are read from the inputs
+//! again, by code that is not proved. So what is told is checked against the inputs, and where they
+//! do not show the fault the words are document 01's general clause, never a guess.
+//!
+//! Names may share their bytes, and a search for one of thousands must not read them thousands of
+//! times: `elf.rs` says what is done about that. Relocation tables, and files of a debug section, may
+//! share their entries: these are walked over as the call does it, once for each that has them.
 
 mod block_file;
 mod carrying;
@@ -19,14 +23,18 @@ mod taken_symbols;
 
 use crate::call::{FILE_LIMIT, PATH_LIMIT};
 use crate::elf::ObjectFile;
-use crate::refusal::{Number, Object};
+use crate::refusal::{JobFile, Number, Object, Refusal};
 use crate::{Asked, Draft, Merge};
 use job::Job;
+pub(crate) use job::Known;
+pub(crate) use statics::statics;
 
 /// What a call was asked for, and the most bytes that its output may have.
-#[derive(Clone, Copy)]
+#[derive(Clone, Copy, Debug, PartialEq, Eq, Hash)]
 pub struct Inputs<'a> {
+    /// The call, with its files.
     pub asked: Asked<'a>,
+    /// The most bytes of its output.
     pub room: usize,
 }
 
@@ -43,9 +51,8 @@ impl<'a> Inputs<'a> {
             Asked::Draft(draft) => (draft.compiled, None),
             Asked::Merge(merge) => (merge.compiled, Some(merge.assembled)),
         };
-        let file = |title, bytes| ObjectFile { title, bytes };
-        let assembled = assembled.map(|bytes| file("the assembled object", bytes));
-        (file("the compiled object", compiled), assembled)
+        let assembled = assembled.map(|bytes| ObjectFile::new(JobFile::Assembled, bytes));
+        (ObjectFile::new(JobFile::Compiled, compiled), assembled)
     }
 
     fn object(&self, object: Object) -> Option<ObjectFile<'a>> {
@@ -60,24 +67,87 @@ impl<'a> Inputs<'a> {
 
 /// The words of a refusal of these inputs.
 pub fn words(inputs: &Inputs, number: Number, object: Object, place: u64) -> String {
-    told(inputs, number, object, place).unwrap_or_else(|| clause(number).into())
+    Refusal::of(inputs, number, object, place).words
+}
+
+impl Refusal {
+    /// A refusal of these inputs, with its file and its words.
+    pub fn of(inputs: &Inputs, number: Number, object: Object, place: u64) -> Refusal {
+        let told = told(inputs, number, object, place);
+        let Told { file, line, words } = told.unwrap_or_else(|| {
+            // 7 says its line by itself.
+            let line = usize::try_from(place).ok();
+            Told {
+                file: usual_file(number, object),
+                line: line.filter(|_| number == Number::BlockFile),
+                words: clause(number).into(),
+            }
+        });
+        Refusal {
+            number,
+            object,
+            place,
+            file,
+            line,
+            words,
+        }
+    }
+}
+
+/// What the inputs show: the file at fault, its line where it has lines, and the words.
+struct Told {
+    file: JobFile,
+    line: Option<usize>,
+    words: String,
+}
+
+impl Told {
+    fn of(file: JobFile, words: String) -> Told {
+        Told {
+            file,
+            line: None,
+            words,
+        }
+    }
+
+    fn at_line(line: usize, words: String) -> Told {
+        Told {
+            file: JobFile::Blocks,
+            line: Some(line),
+            words,
+        }
+    }
+}
+
+/// The file that a refusal of a number is about, as far as number and object say it. 8 and 9 are on
+/// C's symbols by their object, but what is to be changed is the line of the block file.
+fn usual_file(number: Number, object: Object) -> JobFile {
+    match (number, object) {
+        (Number::BlockFile | Number::BlockPlace | Number::BlockAlignment, _) => JobFile::Blocks,
+        (Number::OutputRoom, _) => JobFile::Output,
+        (_, Object::Assembled) => JobFile::Assembled,
+        (_, Object::None | Object::Compiled) => JobFile::Compiled,
+    }
 }
 
 /// What the inputs show, if they show the fault.
-fn told(inputs: &Inputs, number: Number, object: Object, place: u64) -> Option<String> {
+fn told(inputs: &Inputs, number: Number, object: Object, place: u64) -> Option<Told> {
     let at = usize::try_from(place).ok()?;
     let job = || Job::read(inputs);
-    match number {
-        Number::Limits => limits(inputs),
+    let words = match number {
+        Number::Limits => return limits(inputs),
         Number::FileHeader => file_header::words(inputs.object(object)?, at),
         Number::SectionHeader => sections::header_words(inputs.object(object)?, at),
         Number::SectionName => sections::name_words(inputs.object(object)?, at),
         Number::SymbolTable => symbols::words(inputs.object(object)?, at),
         Number::RelocationTable => relocations::words(inputs.object(object)?, at),
-        Number::BlockFile => block_file::words(inputs.blocks(), at),
+        Number::BlockFile => {
+            return Some(Told::at_line(at, block_file::words(inputs.blocks(), at)?));
+        }
         Number::BlockPlace | Number::BlockAlignment => {
             let fault = places::first_fault(inputs.object(object)?, inputs.blocks())?;
-            ((fault.number, fault.block) == (number, at)).then_some(fault.words)
+            let is_told = (fault.number, fault.block) == (number, at);
+            return is_told.then(|| Told::at_line(fault.line, fault.words));
         }
         Number::Clash => carrying::clash_words(&job()?, at),
         Number::MissingSection => line_up::missing_words(&job()?, object, at),
@@ -87,19 +157,20 @@ fn told(inputs: &Inputs, number: Number, object: Object, place: u64) -> Option<S
         Number::SymbolSection => taken_symbols::section_words(&job()?, at),
         Number::LateSymbol => taken_symbols::late_value_words(&job()?, at),
         Number::Statics => statics::words(&job()?, at),
-        Number::LooseSymbol => symbol_list::loose_words(&job()?, at),
-        Number::NameTwice => symbol_list::twice_words(&job()?, at),
+        Number::LooseSymbol => return symbol_list::loose_words(&job()?, at),
+        Number::NameTwice => return symbol_list::twice_words(&job()?, at),
         Number::LostEntry => carrying::lost_words(&job()?, object, at),
         Number::OutputRoom => {
             let room = inputs.room;
             let result = format!("the result has {place} bytes, the output may have {room}");
             (at > room).then_some(result)
         }
-    }
+    };
+    Some(Told::of(usual_file(number, object), words?))
 }
 
 /// What a second walk over the inputs found, and where.
-struct Fault {
+pub(crate) struct Fault {
     place: usize,
     words: String,
 }
@@ -111,27 +182,25 @@ impl Fault {
     }
 }
 
-fn limits(inputs: &Inputs) -> Option<String> {
-    let (files, path) = match &inputs.asked {
-        Asked::Draft(draft) => {
-            let prelude = ("the prelude", draft.prelude);
-            ([("the compiled object", draft.compiled), prelude], None)
-        }
+/// A file over its limit; or the path, which is C's.
+fn limits(inputs: &Inputs) -> Option<Told> {
+    let (compiled, other, path) = match inputs.asked {
+        Asked::Draft(draft) => (draft.compiled, (JobFile::Prelude, draft.prelude), None),
         Asked::Merge(merge) => {
-            let assembled = ("the assembled object", merge.assembled);
-            (
-                [("the compiled object", merge.compiled), assembled],
-                Some(merge.path),
-            )
+            let assembled = (JobFile::Assembled, merge.assembled);
+            (merge.compiled, assembled, Some(merge.path))
         }
     };
-    let mut files = files
-        .into_iter()
-        .chain([("the block file", inputs.blocks())]);
-    if let Some((title, _)) = files.find(|(_, file)| file.len() > FILE_LIMIT) {
-        return Some(format!("{title} has more than {FILE_LIMIT} bytes"));
+    let (compiled, blocks) = (
+        (JobFile::Compiled, compiled),
+        (JobFile::Blocks, inputs.blocks()),
+    );
+    let mut files = [compiled, other, blocks].into_iter();
+    if let Some((file, _)) = files.find(|(_, bytes)| bytes.len() > FILE_LIMIT) {
+        let words = format!("{} has more than {FILE_LIMIT} bytes", file.title());
+        return Some(Told::of(file, words));
     }
-    path_fault(path?)
+    Some(Told::of(JobFile::Compiled, path_fault(path?)?))
 }
 
 /// What is wrong with the path of a merge.

@@ -15,12 +15,12 @@ use daphulle::{
 use std::{
     ffi::{OsStr, OsString},
     fs::{self, File, OpenOptions},
-    io::Read,
+    io::{self, Read},
     os::unix::{
         ffi::OsStrExt,
         fs::{FileTypeExt, MetadataExt, PermissionsExt, symlink},
     },
-    process::Command,
+    process::{Command, Output},
 };
 
 const NAMES: [&str; 3] = ["blocks", "c.o", "prelude"];
@@ -173,17 +173,75 @@ fn a_refusal_is_one_line_and_status_1() {
         let output = run_with(&folder, words, input);
         assert_eq!(ended(&output), (1, &b""[..], line));
     };
-    let line = "daphulle: refused 2 1 0: the compiled object has 0 bytes, and its file header \
-                alone takes 52\n";
+    let line = "-: refused 2 1 0: the compiled object has 0 bytes, and its file header alone takes \
+                52\n";
     refused(&usual_but("c.o", "-"), b"", line);
     refused(
         &usual_but("blocks", "-"),
         b"desc=\x1b\nhello\n",
-        "daphulle: refused 7 0 2: line 2 of the block file is `hello`, where `text=` must stand\n",
+        "-:2: refused 7 0 2: line 2 of the block file is `hello`, where `text=` must stand\n",
     );
-    let line = "daphulle: refused 1 0 0: the prelude has more than 1048576 bytes\n";
+    let line = "/dev/zero: refused 1 0 0: the prelude has more than 1048576 bytes\n";
     refused(&usual_but("prelude", "/dev/zero"), b"", line);
     assert_eq!(folder.names(), NAMES);
+}
+
+/// The line of the block file is that of the section at fault, as editors read it.
+#[test]
+fn a_refused_line_is_named() {
+    let folder = known_folder();
+    fs::write(folder.path().join("c.o"), object(&[("a", 8), ("b", 12)])).unwrap();
+    let sound = block("one", "a 4 0", "");
+    for (file, line) in [
+        (
+            sound.clone() + "desc=\ntext=b 4\n",
+            "blocks:11: refused 7 0 11: line 11 of the block file is `text=b 4`, but `text=` takes \
+             nothing, or `label size align8` with single spaces: a size up to 1048576, an align8 up \
+             to 8, no leading zeros\n",
+        ),
+        (
+            sound.clone() + &block("two", "b 4 0", "a 0 0"),
+            "blocks:12: refused 8 1 1: block 1 (`two`), `data=a`: its size is 0\n",
+        ),
+        (
+            sound + &block("two", "b 4 8", ""),
+            "blocks:11: refused 9 1 1: block 1 (`two`), `text=b`: align8 is 8, at 12 it must be 0 or \
+             4\n",
+        ),
+    ] {
+        fs::write(folder.path().join("blocks"), file).unwrap();
+        assert_eq!(ended(&run(&folder, &USUAL)), (1, &b""[..], line));
+    }
+}
+
+/// Names of the files of a refusal: one as it is, so that it is found, and one that is no text.
+#[test]
+fn a_refusal_shows_odd_names_on_one_line() {
+    let folder = known_folder();
+    for (name, shown) in [
+        (&b"d \"2\"'s\\x.o"[..], "d \"2\"'s\\x.o"),
+        ("gr\u{fc}n.o".as_bytes(), "gr\u{fc}n.o"),
+        (b"\xffd\n\x1b[31m", "\\xFFd\\n\\u{1b}[31m"),
+    ] {
+        let name = OsStr::from_bytes(name);
+        fs::write(folder.path().join(name), "x").unwrap();
+        for (at, line) in [
+            (
+                1,
+                "refused 2 1 1: the compiled object has 1 bytes, and its file header alone takes 52",
+            ),
+            (
+                5,
+                "refused 7 0 1: line 1 of the block file has no LF at its end: `x`",
+            ),
+        ] {
+            let mut words: Vec<OsString> = USUAL.map(Into::into).to_vec();
+            words[at] = name.into();
+            let number = if at == 5 { ":1" } else { "" };
+            let line = format!("{shown}{number}: {line}\n");
+            assert_eq!(ended(&run(&folder, &words)), (1, &b""[..], &line[..]));
+        }
+    }
 }
 
 #[test]
@@ -191,7 +249,7 @@ fn a_draft_over_the_limit_is_refused() {
     let folder = known_folder();
     fs::write(folder.path().join("c.o"), object(&[("far", 1 << 24)])).unwrap();
     fs::write(folder.path().join("blocks"), block("", "far 4 0", "")).unwrap();
-    let line = "daphulle: refused 21 0 16777424: the result has 16777424 bytes, the output may have \
+    let line = "out.s: refused 21 0 16777424: the result has 16777424 bytes, the output may have \
                 16777216\n";
     assert_eq!(ended(&run(&folder, &USUAL)), (1, &b""[..], line));
     assert_eq!(folder.names(), NAMES);
@@ -274,11 +332,73 @@ fn full_standard_output_and_error() {
     let output = command.current_dir(folder.path()).output().unwrap();
     let line = "daphulle: cannot write standard output: No space left on device (os error 28)\n";
     assert_eq!(ended(&output), (2, &b""[..], line));
+    for words in [&["--help"][..], &["-V"], &["prelude"]] {
+        let mut command = Command::new(COMMAND);
+        let output = command.args(words).stdout(full()).output().unwrap();
+        assert_eq!(ended(&output), (2, &b""[..], line), "{words:?}");
+    }
     // a refusal that cannot be told still has its status
     let mut command = Command::new(COMMAND);
     command.args(usual_but("blocks", "c.o")).stderr(full());
     let status = command.current_dir(folder.path()).status().unwrap();
     assert_eq!(status.code(), Some(1));
+}
+
+/// Runs the command as a shell does, with some descriptors closed or otherwise opened.
+fn run_in_shell(folder: &Folder, words: &[String], descriptors: &str) -> Output {
+    let mut command = Command::new("sh");
+    command.args(["-c", &format!("exec \"$0\" \"$@\" {descriptors}"), COMMAND]);
+    command
+        .args(words)
+        .current_dir(folder.path())
+        .output()
+        .unwrap()
+}
+
+/// Nothing is lost without a word where standard output is closed, or is not open for writing.
+#[test]
+fn closed_standard_output_and_input() {
+    let folder = known_folder();
+    let closed =
+        "daphulle: cannot write standard output: Bad file descriptor (os error 9)\n".to_string();
+    for descriptors in [">&-", ">&- <&-", "1< blocks"] {
+        for words in [
+            usual_but("out.s", "-"),
+            vec!["prelude".into()],
+            vec!["--help".into()],
+            vec!["--version".into()],
+        ] {
+            let output = run_in_shell(&folder, &words, descriptors);
+            assert_eq!(ended(&output), (2, &b""[..], &closed[..]), "{descriptors}");
+        }
+    }
+    let named = "daphulle: cannot write \"/dev/stdout\": Is a directory (os error 21)\n";
+    let words = usual_but("out.s", "/dev/stdout");
+    let output = run_in_shell(&folder, &words, ">&-");
+    assert_eq!(ended(&output), (2, &b""[..], named));
+    let input = "daphulle: cannot read standard input: Is a directory (os error 21)\n";
+    let output = run_in_shell(&folder, &usual_but("c.o", "-"), "<&-");
+    assert_eq!(ended(&output), (2, &b""[..], input));
+    assert_eq!(folder.names(), NAMES);
+    // what is not used may be closed
+    let words: Vec<_> = USUAL.map(Into::into).to_vec();
+    let output = run_in_shell(&folder, &words, "<&- >&- 2>&-");
+    assert_eq!(ended(&output), (0, &b""[..], ""));
+    let draft = fs::read(folder.path().join("out.s")).unwrap();
+    assert_eq!(draft, DRAFT);
+}
+
+/// A reader that goes away before all is written.
+#[test]
+fn a_broken_pipe_is_an_error() {
+    let folder = known_folder();
+    let (reader, writer) = io::pipe().unwrap();
+    drop(reader);
+    let mut command = Command::new(COMMAND);
+    command.args(usual_but("out.s", "-")).stdout(writer);
+    let output = command.current_dir(folder.path()).output().unwrap();
+    let line = "daphulle: cannot write standard output: Broken pipe (os error 32)\n";
+    assert_eq!(ended(&output), (2, &b""[..], line));
 }
 
 #[test]
@@ -304,6 +424,7 @@ fn wrong_usage_is_status_2() {
 fn help_fits_one_screen() {
     let folder = Folder::new();
     let output = run(&folder, &["--help"]);
+    assert_eq!(run(&folder, &["-h"]), output);
     let (status, text, error) = ended(&output);
     let text = str::from_utf8(text).unwrap();
     assert_eq!((status, error), (0, ""));
@@ -317,11 +438,60 @@ fn help_fits_one_screen() {
     assert_eq!(DRAFT_LIMIT, MERGE_LIMIT);
 }
 
+/// What a command prints in a folder, where it is there and succeeds.
+fn printed(words: &[&str], folder: &str) -> Option<String> {
+    let mut command = Command::new(words[0]);
+    let output = command.args(&words[1..]).current_dir(folder).output();
+    let output = output.ok().filter(|output| output.status.success())?;
+    Some(String::from_utf8(output.stdout).unwrap().trim_end().into())
+}
+
 #[test]
 fn the_version() {
     let folder = Folder::new();
-    let line = concat!("daphulle ", env!("CARGO_PKG_VERSION"), "\n").as_bytes();
-    assert_eq!(ended(&run(&folder, &["--version"])), (0, line, ""));
+    let output = run(&folder, &["--version"]);
+    assert_eq!(run(&folder, &["-V"]), output);
+    let (status, text, error) = ended(&output);
+    assert_eq!((status, error), (0, ""));
+    let lines: Vec<_> = str::from_utf8(text).unwrap().lines().collect();
+    let [version, commit, kit] = lines[..] else {
+        panic!("{lines:?}");
+    };
+    assert_eq!(version, concat!("daphulle ", env!("CARGO_PKG_VERSION")));
+    let package = env!("CARGO_MANIFEST_DIR");
+    // the commit, and whether what the command is made of is that of the commit
+    let status = "git --no-optional-locks status --porcelain -- src build.rs Cargo.toml ../crates";
+    let words: Vec<_> = status.split(' ').collect();
+    let changes = printed(&words, package);
+    let head = printed(&["git", "rev-parse", "--verify", "HEAD"], package);
+    let expected = match (head, changes.as_deref()) {
+        (None, _) => "commit unknown".into(),
+        (Some(head), Some("")) => format!("commit {head}"),
+        (Some(head), _) => format!("commit {head}, changed"),
+    };
+    assert_eq!(commit, expected);
+    // the kit's name, where the `rt` that is there made the archive
+    let archive = fs::read(env!("DAPHULLE_ARCHIVE")).unwrap();
+    let has = |logic: &str| {
+        let mark = format!("rattle logic={logic}").into_bytes();
+        archive.windows(mark.len()).any(|part| part == mark)
+    };
+    match printed(&["rt", "--version"], package) {
+        Some(known) if has(known.rsplit(' ').next().unwrap()) => {
+            assert_eq!(kit, format!("kit {known}"));
+        }
+        _ => assert!(kit.starts_with("kit unknown"), "{kit}"),
+    }
+}
+
+/// The long name of -o, and the same answer.
+#[test]
+fn short_options_have_long_names() {
+    let folder = known_folder();
+    let mut words = USUAL;
+    words[6] = "--output";
+    assert_eq!(ended(&run(&folder, &words)), (0, &b""[..], ""));
+    assert_eq!(fs::read(folder.path().join("out.s")).unwrap(), DRAFT);
 }
 
 /// The command that the README at the top gives, run there word for word but for the output, which

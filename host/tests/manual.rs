@@ -2,7 +2,7 @@
 
 mod common;
 
-use common::{DRAFT, FIRMWARE, known_merge};
+use common::{DRAFT, FIRMWARE, known_merge, line, object, patched};
 use daphulle::{DRAFT_LIMIT, MERGE_LIMIT, Number, call, draft};
 use std::{
     collections::{BTreeMap, BTreeSet},
@@ -13,6 +13,8 @@ use std::{
 const MANUAL: &str = include_str!("../../docs/MANUAL.md");
 const MAN_PAGE: &str = include_str!("../man/daphulle.1");
 const HELP: &str = include_str!("../src/help.txt");
+/// The README of the host.
+const HOST: &str = include_str!("../README.md");
 /// The limits of the definitions.
 const LIMITS: &str = include_str!("../../crates/base_scope/specs/Limits.antt");
 
@@ -66,11 +68,12 @@ fn every_option_is_explained() {
     assert_eq!(options(&cells), options(explained));
     assert_eq!(options(synopsis), options(front));
     assert_eq!(options(HELP), options(&cells));
+    // the synopsis has all but the long name of -o
     let missing: Vec<_> = options(HELP)
         .difference(&options(synopsis))
         .copied()
         .collect();
-    assert!(missing.is_empty(), "{missing:?} are not in: {synopsis}");
+    assert_eq!(missing, ["--output"], "{synopsis}");
     assert!(options(HELP).contains("--blocks") && options(HELP).contains("-o"));
 }
 
@@ -82,6 +85,19 @@ fn every_refusal_is_explained_once() {
         cells[0].parse::<u32>().unwrap()
     });
     assert!(numbers.eq(Number::ALL.iter().map(|number| number.code())));
+}
+
+#[test]
+fn the_lines_of_refusals_are_those_of_the_command() {
+    let compiled = object(&[]);
+    let little = patched(&compiled, 5, &[1]);
+    let jobs: [(&[u8], &[u8]); 2] = [(&little, b""), (&compiled, b"desc=\ndata=\n")];
+    let told = jobs.map(|(compiled, blocks)| line(&draft(compiled, b"", blocks).unwrap_err()));
+    assert!(block_of_text("Refusals", "c.o:").lines().eq(&told));
+    assert!(
+        told.iter()
+            .all(|line| HOST.contains(&format!("\n{line}\n")))
+    );
 }
 
 #[test]

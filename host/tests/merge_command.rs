@@ -113,25 +113,28 @@ fn settings_and_their_defaults() {
 fn a_path_over_its_limits() {
     let long = format!("{}c.o", "./".repeat(127));
     let folder = folder_with_static("c.o".as_ref());
-    let line = "daphulle: refused 1 0 0: the path has 257 bytes, it may have 255 (it is C as given; \
-                --path gives another)\n";
+    let line = format!(
+        "{long}: refused 1 0 0: the path has 257 bytes, it may have 255 (it is C as given; --path \
+         gives another)\n"
+    );
     assert_eq!(
         ended(&run(&folder, &usual_but("c.o", &long))),
-        (1, &b""[..], line)
+        (1, &b""[..], &line[..])
     );
     let mut words = usual_but("c.o", &long);
     words.extend(["--path".into(), "c.o".into()]);
     assert_eq!(ended(&run(&folder, &words)), (0, &b""[..], ""));
     // one that is given is refused without that hint
+    words[1] = "c.o".into();
     words[8] = long;
-    let line = "daphulle: refused 1 0 0: the path has 257 bytes, it may have 255\n";
+    let line = "c.o: refused 1 0 0: the path has 257 bytes, it may have 255\n";
     assert_eq!(ended(&run(&folder, &words)), (1, &b""[..], line));
 
     let odd = OsStr::from_bytes(b"c\xff");
     let folder = folder_with_static(odd);
     let mut words: Vec<OsString> = USUAL.map(Into::into).to_vec();
     words[1] = odd.into();
-    let line = "daphulle: refused 1 0 0: byte 1 of the path is 255, it must be from 1 to 127 (it is C \
+    let line = "c\\xFF: refused 1 0 0: byte 1 of the path is 255, it must be from 1 to 127 (it is C \
                 as given; --path gives another)\n";
     assert_eq!(ended(&run(&folder, &words)), (1, &b""[..], line));
     words.push("--path=c".into());
@@ -147,22 +150,28 @@ fn a_refusal_is_one_line_and_status_1() {
         assert_eq!(ended(&output), (1, &b""[..], line));
         assert_eq!(fs::read(folder.path().join("out.o")).unwrap(), b"old");
     };
-    let line = "daphulle: refused 2 2 0: the assembled object has 0 bytes, and its file header alone \
-                takes 52\n";
+    let line = "-: refused 2 2 0: the assembled object has 0 bytes, and its file header alone takes \
+                52\n";
     refused(&usual_but("a.o", "-"), b"", line);
-    let line = "daphulle: refused 1 0 0: the assembled object has more than 1048576 bytes\n";
+    let line = "/dev/zero: refused 1 0 0: the assembled object has more than 1048576 bytes\n";
     refused(&usual_but("a.o", "/dev/zero"), b"", line);
+    let line = "/dev/zero: refused 1 0 0: the block file has more than 1048576 bytes\n";
+    refused(&usual_but("blocks", "/dev/zero"), b"", line);
     // C for A: the blocks are not assembled there
-    let line = "daphulle: refused 11 2 5: block 0 (`fee`) has late words or a jump table, and the \
+    let line = "./c.o: refused 11 2 5: block 0 (`fee`) has late words or a jump table, and the \
                 assembled object has no .late_rodata\n";
-    refused(&usual_but("a.o", "c.o"), b"", line);
+    refused(&usual_but("a.o", "./c.o"), b"", line);
     let blocks = known_merge().blocks;
     let other = str::from_utf8(&blocks)
         .unwrap()
         .replace("e0123458", "e0123459");
-    let line = "daphulle: refused 14 1 0: block 0 (`fee`): dummy e0123459 is not in the compiled \
+    let line = "c.o: refused 14 1 0: block 0 (`fee`): dummy e0123459 is not in the compiled \
                 object's .rodata from 44 on\n";
     refused(&usual_but("blocks", "-"), other.as_bytes(), line);
+    let other = other.replace("_asmpp_t1 ", "_asmpp_t1 0");
+    let line = "-:2: refused 7 0 2: ";
+    let output = run_with(&folder, &usual_but("blocks", "-"), other.as_bytes());
+    assert!(ended(&output).2.starts_with(line), "{output:?}");
     assert_eq!(folder.names(), ["a.o", "blocks", "c.o", "out.o"]);
 }
 

@@ -4,8 +4,8 @@ mod common;
 
 use common::{block, clause, debug_section, known_merge, made, object};
 use daphulle::{
-    Asked, ConvertStatics, Draft, Error, Inputs, Merge, NoteKind, Number, Object, draft, merge,
-    notes, words,
+    Asked, ConvertStatics, Draft, Error, Inputs, Merge, NoteKind, Number, Object, draft,
+    draft_room, merge, merge_room, notes, words,
 };
 
 /// xorshift64: the same numbers in each run.
@@ -124,6 +124,7 @@ fn real_refusals_of_drafts_are_told() {
         match draft(&compiled, b"", &blocks) {
             Ok(text) => {
                 assert!(text.ends_with(b"\n"));
+                assert!(text.len() <= draft_room(&compiled, b"", &blocks));
                 drafts += 1;
                 lacking += usize::from(is_lacking_and_noted(&compiled, &blocks, &text));
             }
@@ -188,6 +189,7 @@ fn real_refusals_of_merges_are_told() {
         match merge(&job) {
             Ok(object) => {
                 assert!(object.starts_with(b"\x7fELF"));
+                assert!(object.len() <= merge_room(&job));
                 merges += 1;
             }
             Err(error) => refusals[assert_told(error).code() as usize] += 1,

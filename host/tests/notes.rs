@@ -234,8 +234,8 @@ fn strict_takes_them_for_errors() {
 #[test]
 fn a_refusal_stands_alone() {
     let folder = folder_with_a_block_left_out();
-    let line = "daphulle: refused 2 2 0: the assembled object has 0 bytes, and its file header alone \
-                takes 52\n";
+    let line = "a.o: refused 2 2 0: the assembled object has 0 bytes, and its file header alone takes \
+                52\n";
     put(&folder, "a.o", b"");
     for more in [&[][..], &["--strict"]] {
         let output = run(&folder, &[&MERGE[..], more].concat());
@@ -252,9 +252,9 @@ fn a_line_begins_with_c_as_given() {
     fs::create_dir(path(b"d")).unwrap();
     for (name, shown) in [
         (&b"./d/../c.o"[..], "./d/../c.o"),
-        (b"d/c \"2\".o", "d/c \\\"2\\\".o"),
+        (b"d/c \"2\".o", "d/c \"2\".o"),
         (b"\xff\nc", "\\xFF\\nc"),
-        (b"\"", "\\\""),
+        (b"\"", "\""),
     ] {
         fs::write(path(name), &known.compiled).unwrap();
         let mut words = DRAFT.map(OsStr::new);

@@ -1,6 +1,6 @@
 //! The recorded jobs of `crates/prog_draft_jobs` and `crates/prog_merge_jobs`, through the library:
-//! every result and every refusal is the one that the model of document 01 and the Rust gave, and
-//! the words of every refusal tell its fault.
+//! every result and every refusal is the one that the model of document 01 and the Rust gave, the
+//! words of every refusal tell its fault, and the room that is said to be enough is.
 
 mod common;
 
@@ -8,7 +8,7 @@ use common::clause;
 use daphulle::{
     Answer, Asked, ConvertStatics, Draft, Inputs, Merge,
     call::{self, MergeBuffers, MergeInputs, Outcome},
-    words,
+    draft_room, merge_room, words,
 };
 use std::fs;
 
@@ -66,6 +66,16 @@ fn assert_told(asked: Asked, room: usize, outcome: Outcome) {
     assert_ne!(told, clause(number, object, place), "{outcome:?}");
 }
 
+/// The room that the library lends is enough.
+fn assert_room(room: usize, outcome: Outcome) {
+    let needed = match outcome.number {
+        0 => outcome.length,
+        21 => outcome.place,
+        _ => 0,
+    };
+    assert!(needed <= room as u64, "{room} for {outcome:?}");
+}
+
 #[test]
 fn the_recorded_drafts() {
     compare("prog_draft_jobs", "", |rest| {
@@ -83,6 +93,7 @@ fn the_recorded_drafts() {
             blocks,
         });
         assert_told(asked, room, outcome);
+        assert_room(draft_room(compiled, prelude, blocks), outcome);
         (outcome, out)
     });
 }
@@ -121,15 +132,16 @@ fn the_recorded_merges() {
             .any(|(length, least)| *length < least);
         let settings = (ConvertStatics::of(inputs.mode), flag);
         if let (Some(convert_statics), 0 | 1, false) = (settings.0, settings.1, is_short) {
-            let asked = Asked::Merge(Merge {
+            let merge = Merge {
                 compiled,
                 assembled,
                 blocks,
                 path,
                 drop_mdebug_gptab: flag == 1,
                 convert_statics,
-            });
-            assert_told(asked, room, outcome);
+            };
+            assert_told(Asked::Merge(merge), room, outcome);
+            assert_room(merge_room(&merge), outcome);
         }
         (outcome, out)
     });

@@ -4,13 +4,13 @@
 mod common;
 
 use common::{Case, block, known_case, known_merge, object, patched, section_field, with_field};
-use daphulle::{Asked, Draft, Error, Inputs, Number, Object, draft, words};
+use daphulle::{Asked, Draft, Inputs, Number, Object, Refusal, draft, words};
 
 /// Checks the line of each refusal: compiled object, block file, line.
 fn check(refusals: &[(Vec<u8>, &[u8], &str)]) {
     for (compiled, blocks, line) in refusals {
         match draft(compiled, b"", blocks) {
-            Err(Error::Refused(refusal)) => assert_eq!(refusal.to_string(), *line),
+            Err(error) => assert_eq!(common::line(&error), *line),
             other => panic!("{other:?} where this was expected: {line}"),
         }
     }
@@ -34,19 +34,19 @@ fn number_1_names_the_input() {
     for (files, line) in [
         (
             [&long, &prelude, &blocks],
-            "refused 1 0 0: the compiled object has more than 1048576 bytes",
+            "c.o: refused 1 0 0: the compiled object has more than 1048576 bytes",
         ),
         (
             [&compiled, &long, &blocks],
-            "refused 1 0 0: the prelude has more than 1048576 bytes",
+            "prelude: refused 1 0 0: the prelude has more than 1048576 bytes",
         ),
         (
             [&compiled, &prelude, &long],
-            "refused 1 0 0: the block file has more than 1048576 bytes",
+            "blocks: refused 1 0 0: the block file has more than 1048576 bytes",
         ),
     ] {
         let refused = draft(files[0], files[1], files[2]).unwrap_err();
-        assert_eq!(refused.to_string(), line);
+        assert_eq!(common::line(&refused), line);
     }
 }
 
@@ -57,59 +57,59 @@ fn number_2_names_the_field() {
     check_objects(&[
         (
             vec![],
-            "refused 2 1 0: the compiled object has 0 bytes, and its file header alone takes 52",
+            "c.o: refused 2 1 0: the compiled object has 0 bytes, and its file header alone takes 52",
         ),
         (
             sound[..51].to_vec(),
-            "refused 2 1 51: the compiled object has 51 bytes, and its file header alone takes 52",
+            "c.o: refused 2 1 51: the compiled object has 51 bytes, and its file header alone takes 52",
         ),
         (
             with(0, b"#"),
-            "refused 2 1 0: EI_MAG0 of the compiled object is 35, it must be 127 (7F hex)",
+            "c.o: refused 2 1 0: EI_MAG0 of the compiled object is 35, it must be 127 (7F hex)",
         ),
         (
             with(1, b"e"),
-            "refused 2 1 1: EI_MAG1 of the compiled object is 101, it must be 69 (E)",
+            "c.o: refused 2 1 1: EI_MAG1 of the compiled object is 101, it must be 69 (E)",
         ),
         (
             with(2, b"l"),
-            "refused 2 1 2: EI_MAG2 of the compiled object is 108, it must be 76 (L)",
+            "c.o: refused 2 1 2: EI_MAG2 of the compiled object is 108, it must be 76 (L)",
         ),
         (
             with(3, b"f"),
-            "refused 2 1 3: EI_MAG3 of the compiled object is 102, it must be 70 (F)",
+            "c.o: refused 2 1 3: EI_MAG3 of the compiled object is 102, it must be 70 (F)",
         ),
         (
             with(4, &[2]),
-            "refused 2 1 4: EI_CLASS of the compiled object is 2, it must be 1 (ELFCLASS32)",
+            "c.o: refused 2 1 4: EI_CLASS of the compiled object is 2, it must be 1 (ELFCLASS32)",
         ),
         (
             with(5, &[1]),
-            "refused 2 1 5: EI_DATA of the compiled object is 1, it must be 2 (big-endian)",
+            "c.o: refused 2 1 5: EI_DATA of the compiled object is 1, it must be 2 (big-endian)",
         ),
         (
             with(16, &[0, 2]),
-            "refused 2 1 16: e_type of the compiled object is 2, it must be 1 (ET_REL)",
+            "c.o: refused 2 1 16: e_type of the compiled object is 2, it must be 1 (ET_REL)",
         ),
         (
             with(18, &[0, 62]),
-            "refused 2 1 18: e_machine of the compiled object is 62, it must be 8 (EM_MIPS)",
+            "c.o: refused 2 1 18: e_machine of the compiled object is 62, it must be 8 (EM_MIPS)",
         ),
         (
             with(28, &[0, 0, 0, 52]),
-            "refused 2 1 28: e_phoff of the compiled object is 52, it must be 0",
+            "c.o: refused 2 1 28: e_phoff of the compiled object is 52, it must be 0",
         ),
         (
             with(32, &[0; 4]),
-            "refused 2 1 32: e_shoff of the compiled object is 0, it must not be",
+            "c.o: refused 2 1 32: e_shoff of the compiled object is 0, it must not be",
         ),
         (
             with(46, &[0, 64]),
-            "refused 2 1 46: e_shentsize of the compiled object is 64, it must be 40",
+            "c.o: refused 2 1 46: e_shentsize of the compiled object is 64, it must be 40",
         ),
         (
             with(50, &[0, 0]),
-            "refused 2 1 50: e_shstrndx of the compiled object is 0, it must not be",
+            "c.o: refused 2 1 50: e_shstrndx of the compiled object is 0, it must not be",
         ),
     ]);
 }
@@ -121,51 +121,51 @@ fn number_3_names_the_section() {
     check_objects(&[
         (
             patched(&sound, 48, &[0, 0]),
-            "refused 3 1 0: the compiled object has 0 sections (e_shnum), it may have 1 to 128",
+            "c.o: refused 3 1 0: the compiled object has 0 sections (e_shnum), it may have 1 to 128",
         ),
         (
             patched(&sound, 48, &[0, 129]),
-            "refused 3 1 0: the compiled object has 129 sections (e_shnum), it may have 1 to 128",
+            "c.o: refused 3 1 0: the compiled object has 129 sections (e_shnum), it may have 1 to 128",
         ),
         (
             patched(&sound, 48, &[0, 6]),
-            "refused 3 1 5: section 5 of the compiled object: its header lies outside the file",
+            "c.o: refused 3 1 5: section 5 of the compiled object: its header lies outside the file",
         ),
         (
             with(0, "sh_type", 1),
-            "refused 3 1 0: section 0 of the compiled object: sh_type is 1, it must be 0 there",
+            "c.o: refused 3 1 0: section 0 of the compiled object: sh_type is 1, it must be 0 there",
         ),
         (
             with(0, "sh_size", 8),
-            "refused 3 1 0: section 0 of the compiled object: sh_size is 8, it must be 0 there",
+            "c.o: refused 3 1 0: section 0 of the compiled object: sh_size is 8, it must be 0 there",
         ),
         (
             with(1, "sh_type", 0),
-            "refused 3 1 1: section 1 (`.text`) of the compiled object: sh_type is 0, which is for \
+            "c.o: refused 3 1 1: section 1 (`.text`) of the compiled object: sh_type is 0, which is for \
              section 0 alone",
         ),
         (
             with(1, "sh_flags", 0x86),
-            "refused 3 1 1: section 1 (`.text`) of the compiled object: sh_flags has SHF_LINK_ORDER",
+            "c.o: refused 3 1 1: section 1 (`.text`) of the compiled object: sh_flags has SHF_LINK_ORDER",
         ),
         (
             with(1, "sh_entsize", 5),
-            "refused 3 1 1: section 1 (`.text`) of the compiled object: sh_size 16 is no multiple of \
+            "c.o: refused 3 1 1: section 1 (`.text`) of the compiled object: sh_size 16 is no multiple of \
              sh_entsize 5",
         ),
         (
             with(1, "sh_size", 0xffff_ffff),
-            "refused 3 1 1: section 1 (`.text`) of the compiled object: sh_size 4294967295 at \
+            "c.o: refused 3 1 1: section 1 (`.text`) of the compiled object: sh_size 4294967295 at \
              sh_offset 52 passes the file's end, 325",
         ),
         (
             with(1, "sh_addralign", 131_072),
-            "refused 3 1 1: section 1 (`.text`) of the compiled object: sh_addralign is 131072, it \
+            "c.o: refused 3 1 1: section 1 (`.text`) of the compiled object: sh_addralign is 131072, it \
              may be 65536 at most",
         ),
         (
             with(1, "sh_type", 8),
-            "refused 3 1 1: section 1 (`.text`) of the compiled object: sh_type is 0x8, for this \
+            "c.o: refused 3 1 1: section 1 (`.text`) of the compiled object: sh_type is 0x8, for this \
              name it must be 0x1",
         ),
     ]);
@@ -179,19 +179,19 @@ fn number_4_names_the_section() {
     check_objects(&[
         (
             patched(&sound, 50, &[0, 1]),
-            "refused 4 1 0: e_shstrndx of the compiled object is 1, which is no string table",
+            "c.o: refused 4 1 0: e_shstrndx of the compiled object is 1, which is no string table",
         ),
         (
             patched(&sound, 50, &[0, 9]),
-            "refused 4 1 0: e_shstrndx of the compiled object is 9, which is no string table",
+            "c.o: refused 4 1 0: e_shstrndx of the compiled object is 9, which is no string table",
         ),
         (
             with_field(&sound, 2, "sh_name", 33),
-            "refused 4 1 2: the name of section 2 of the compiled object has no zero end",
+            "c.o: refused 4 1 2: the name of section 2 of the compiled object has no zero end",
         ),
         (
             patched(&sound, letter, &[0xe9]),
-            "refused 4 1 1: the name of section 1 (`.\\xe9ext`) of the compiled object has a byte \
+            "c.o: refused 4 1 1: the name of section 1 (`.\\xe9ext`) of the compiled object has a byte \
              over 127",
         ),
     ]);
@@ -206,44 +206,44 @@ fn number_5_names_the_symbol() {
     check_objects(&[
         (
             with(3, "sh_type", 1),
-            "refused 5 1 0: the compiled object has no symbol table",
+            "c.o: refused 5 1 0: the compiled object has no symbol table",
         ),
         (
             with(3, "sh_entsize", 8),
-            "refused 5 1 0: section 3 (`.symtab`) of the compiled object: sh_entsize is 8, for \
+            "c.o: refused 5 1 0: section 3 (`.symtab`) of the compiled object: sh_entsize is 8, for \
              symbols it must be 16",
         ),
         (
             with(3, "sh_link", 1),
-            "refused 5 1 0: section 3 (`.symtab`) of the compiled object: sh_link is 1, which is no \
+            "c.o: refused 5 1 0: section 3 (`.symtab`) of the compiled object: sh_link is 1, which is no \
              string table",
         ),
         (
             with(3, "sh_size", 0),
-            "refused 5 1 0: section 3 (`.symtab`) of the compiled object has 0 symbols, entry 0 \
+            "c.o: refused 5 1 0: section 3 (`.symtab`) of the compiled object has 0 symbols, entry 0 \
              included; it may have 1 to 4096",
         ),
         (
             object(&many),
-            "refused 5 1 0: section 3 (`.symtab`) of the compiled object has 4097 symbols, entry 0 \
+            "c.o: refused 5 1 0: section 3 (`.symtab`) of the compiled object has 4097 symbols, entry 0 \
              included; it may have 1 to 4096",
         ),
         (
             patched(&sound, table + 7, &[1]),
-            "refused 5 1 0: symbol 0 of the compiled object: it must be zeros",
+            "c.o: refused 5 1 0: symbol 0 of the compiled object: it must be zeros",
         ),
         (
             patched(&sound, table + 16, &[0, 0, 1, 0]),
-            "refused 5 1 1: symbol 1 of the compiled object: its name has no zero end",
+            "c.o: refused 5 1 1: symbol 1 of the compiled object: its name has no zero end",
         ),
         (
             patched(&sound, table + 32 + 14, &[0, 5]),
-            "refused 5 1 2: symbol 2 (`beta`) of the compiled object: st_shndx is 5, there are 5 \
+            "c.o: refused 5 1 2: symbol 2 (`beta`) of the compiled object: st_shndx is 5, there are 5 \
              sections",
         ),
         (
             patched(&sound, table + 32 + 14, &[0xff, 0xff]),
-            "refused 5 1 2: symbol 2 (`beta`) of the compiled object: st_shndx is 65535, there are \
+            "c.o: refused 5 1 2: symbol 2 (`beta`) of the compiled object: st_shndx is 65535, there are \
              5 sections",
         ),
     ]);
@@ -251,7 +251,7 @@ fn number_5_names_the_symbol() {
     let names_at = sound.len() - 5 * 40 - 33 - "alpha.beta.".len();
     check_objects(&[(
         patched(&sound, names_at, b"x"),
-        "refused 5 1 0: symbol 0 (`x.text`) of the compiled object: its name must be empty",
+        "c.o: refused 5 1 0: symbol 0 (`x.text`) of the compiled object: its name must be empty",
     )]);
 }
 
@@ -263,22 +263,22 @@ fn number_6_names_the_table() {
     check_objects(&[
         (
             with(2, "sh_entsize", 4),
-            "refused 6 1 2: section 2 (`.rel.text`) of the compiled object: sh_entsize is 4, for \
+            "c.o: refused 6 1 2: section 2 (`.rel.text`) of the compiled object: sh_entsize is 4, for \
              REL it must be 8",
         ),
         (
             rela,
-            "refused 6 1 2: section 2 (`.rel.text`) of the compiled object: sh_entsize is 8, for \
+            "c.o: refused 6 1 2: section 2 (`.rel.text`) of the compiled object: sh_entsize is 8, for \
              RELA it must be 12",
         ),
         (
             with(2, "sh_info", 5),
-            "refused 6 1 2: section 2 (`.rel.text`) of the compiled object: sh_info is 5, there are \
+            "c.o: refused 6 1 2: section 2 (`.rel.text`) of the compiled object: sh_info is 5, there are \
              5 sections",
         ),
         (
             with(2, "sh_link", 4),
-            "refused 6 1 2: section 2 (`.rel.text`) of the compiled object: sh_link is 4, the symbol \
+            "c.o: refused 6 1 2: section 2 (`.rel.text`) of the compiled object: sh_link is 4, the symbol \
              table is section 3",
         ),
     ]);
@@ -293,67 +293,67 @@ fn number_7_shows_the_line() {
     for (file, line) in [
         (
             "x".into(),
-            "refused 7 0 1: line 1 of the block file has no LF at its end: `x`",
+            "blocks:1: refused 7 0 1: line 1 of the block file has no LF at its end: `x`",
         ),
         (
             "x\n".into(),
-            "refused 7 0 1: line 1 of the block file is `x`, where `desc=` must stand",
+            "blocks:1: refused 7 0 1: line 1 of the block file is `x`, where `desc=` must stand",
         ),
         (
             format!("{}\u{1}é'\n", "long ".repeat(9)),
-            "refused 7 0 1: line 1 of the block file is `long long long long long long long long \
+            "blocks:1: refused 7 0 1: line 1 of the block file is `long long long long long long long long \
              long \\x01\\xc3\\xa9...`, where `desc=` must stand",
         ),
         (
             "desc=\n".into(),
-            "refused 7 0 2: the block file ends before line 2, where `text=` must stand",
+            "blocks:2: refused 7 0 2: the block file ends before line 2, where `text=` must stand",
         ),
         (
             "desc=\ntext=t 4\n".into(),
-            "refused 7 0 2: line 2 of the block file is `text=t 4`, but `text=` takes \
+            "blocks:2: refused 7 0 2: line 2 of the block file is `text=t 4`, but `text=` takes \
              nothing, or `label size align8` with single spaces: a size up to 1048576, an align8 up \
              to 8, no leading zeros",
         ),
         (
             "desc=\n\n".into(),
-            "refused 7 0 2: line 2 of the block file is empty, where `text=` must stand",
+            "blocks:2: refused 7 0 2: line 2 of the block file is empty, where `text=` must stand",
         ),
         (
             file("asm=\n"),
-            "refused 7 0 6: line 6 of the block file is `asm=`, where `glabel=`, `dummy=` or `jtbl=` \
+            "blocks:6: refused 7 0 6: line 6 of the block file is `asm=`, where `glabel=`, `dummy=` or `jtbl=` \
              must stand",
         ),
         (
             file("glabel=a b\n"),
-            "refused 7 0 6: line 6 of the block file is `glabel=a b`, but `glabel=` takes a \
+            "blocks:6: refused 7 0 6: line 6 of the block file is `glabel=a b`, but `glabel=` takes a \
              label without a space",
         ),
         (
             file("dummy=0123456\n"),
-            "refused 7 0 6: line 6 of the block file is `dummy=0123456`, but `dummy=` takes \
+            "blocks:6: refused 7 0 6: line 6 of the block file is `dummy=0123456`, but `dummy=` takes \
              8 lowercase hex digits",
         ),
         (
             file("dummy=01234567\nglabel=g\n"),
-            "refused 7 0 7: line 7 of the block file is `glabel=g`, where `dummy=` or `jtbl=` must \
+            "blocks:7: refused 7 0 7: line 7 of the block file is `glabel=g`, where `dummy=` or `jtbl=` must \
              stand",
         ),
         (
             file("jtbl=08\n"),
-            "refused 7 0 6: line 6 of the block file is `jtbl=08`, but `jtbl=` takes a \
+            "blocks:6: refused 7 0 6: line 6 of the block file is `jtbl=08`, but `jtbl=` takes a \
              number up to 1048576 without a leading zero",
         ),
         (
             file("jtbl=8\nlate=\nend= \n"),
-            "refused 7 0 8: line 8 of the block file is `end= `, but `end=` takes nothing",
+            "blocks:8: refused 7 0 8: line 8 of the block file is `end= `, but `end=` takes nothing",
         ),
         (
             file("jtbl=8\nlate=\nend="),
-            "refused 7 0 8: line 8 of the block file has no LF at its end: `end=`",
+            "blocks:8: refused 7 0 8: line 8 of the block file has no LF at its end: `end=`",
         ),
         (
             many,
-            "refused 7 0 9217: line 9217 of the block file starts another block, and 1024 are \
+            "blocks:9217: refused 7 0 9217: line 9217 of the block file starts another block, and 1024 are \
              allowed",
         ),
     ] {
@@ -368,29 +368,29 @@ fn numbers_8_and_9_name_the_block() {
     for (file, line) in [
         (
             block("one", "a 0 0", ""),
-            "refused 8 1 0: block 0 (`one`), `text=a`: its size is 0",
+            "blocks:2: refused 8 1 0: block 0 (`one`), `text=a`: its size is 0",
         ),
         (
             first.clone() + &block("", "absent 0 0", ""),
-            "refused 8 1 1: block 1, `text=absent`: its size is 0",
+            "blocks:11: refused 8 1 1: block 1, `text=absent`: its size is 0",
         ),
         (
             first.clone() + &block("two", "b 4 0", ""),
-            "refused 8 1 1: block 1 (`two`), `text=b`: it is at 12, below 16, the end of the block \
+            "blocks:11: refused 8 1 1: block 1 (`two`), `text=b`: it is at 12, below 16, the end of the block \
              before in .text",
         ),
         (
             // the block in between is off, and its other line with it
             first.clone() + &block("off", "absent 4 0", "a 0 0") + &block("on", "c 4 0", "a 4 4"),
-            "refused 9 1 2: block 2 (`on`), `data=a`: align8 is 4, at 8 it must be 0 or 8",
+            "blocks:21: refused 9 1 2: block 2 (`on`), `data=a`: align8 is 4, at 8 it must be 0 or 8",
         ),
         (
             block("one", "b 4 8", ""),
-            "refused 9 1 0: block 0 (`one`), `text=b`: align8 is 8, at 12 it must be 0 or 4",
+            "blocks:2: refused 9 1 0: block 0 (`one`), `text=b`: align8 is 8, at 12 it must be 0 or 4",
         ),
         (
             block("\u{1b}[31mred`", "b 4 1", ""),
-            "refused 9 1 0: block 0 (`\\x1b[31mred``), `text=b`: align8 is 1, at 12 it must be 0 or \
+            "blocks:2: refused 9 1 0: block 0 (`\\x1b[31mred``), `text=b`: align8 is 1, at 12 it must be 0 or \
              4",
         ),
     ] {
@@ -405,7 +405,7 @@ fn number_21_says_the_length() {
     check(&[(
         object(&[("far", 0xffff_fffc)]),
         file.as_bytes(),
-        "refused 21 0 4294967491: the result has 4294967491 bytes, the output may have \
+        "out: refused 21 0 4294967491: the result has 4294967491 bytes, the output may have \
          16777216",
     )]);
 }
@@ -487,8 +487,13 @@ fn words_are_not_made_up() {
             let room = usize::MAX;
             for &object in Object::ALL {
                 for place in [0, 1, 4, 60, u64::MAX] {
-                    let words = words(&Inputs { asked, room }, number, object, place);
+                    let inputs = Inputs { asked, room };
+                    let words = words(&inputs, number, object, place);
                     assert_eq!(words, clause, "{place}");
+                    // the place of 7 is its line, whatever the block file has there
+                    let line = Refusal::of(&inputs, number, object, place).line;
+                    let is_line = number == Number::BlockFile;
+                    assert_eq!(line, is_line.then_some(place as usize));
                 }
             }
         }

@@ -114,15 +114,16 @@ pub(super) fn lost_words(job: &Job, object: Object, place: usize) -> Option<Stri
 
 fn lost_in_compiled(job: &Job, late: &Late, place: usize) -> Option<String> {
     let compiled = &job.compiled;
-    Code::LINES.into_iter().find_map(|code| {
+    let mut codes = Code::LINES.into_iter();
+    codes.find_map(|code| {
         let mut tables = compiled.file.tables_of(compiled.section(code)?);
+        if is_left_out(job, late, code, place) {
+            return None;
+        }
         tables.find_map(|(index, table)| {
             let mut entries = compiled.file.relocations(&table);
-            let lost = entries.find(|entry| {
-                entry.offset as usize == place
-                    && !is_left_out(job, late, code, place)
-                    && !job.keeps(entry.symbol)
-            })?;
+            let lost =
+                entries.find(|entry| entry.offset as usize == place && !job.keeps(entry.symbol))?;
             Some(without_symbol(compiled, index, place, lost.symbol))
         })
     })

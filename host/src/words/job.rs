@@ -9,20 +9,19 @@ use crate::blocks::{Block, blocks};
 use crate::codes::Code;
 use crate::elf::{self, ObjectFile, Symbol};
 use crate::refusal::ConvertStatics;
-use std::collections::HashSet;
 
 /// Names that the result does not take over begin so.
 const PREFIX: &[u8] = b"_asmpp_";
 
 /// An object with its symbols, and "the" section of each code.
-pub(super) struct Known<'a> {
+pub(crate) struct Known<'a> {
     pub file: ObjectFile<'a>,
     pub symbols: Vec<Symbol<'a>>,
     sections: [Option<usize>; 6],
 }
 
 impl<'a> Known<'a> {
-    fn of(file: ObjectFile<'a>) -> Option<Known<'a>> {
+    pub fn of(file: ObjectFile<'a>) -> Option<Known<'a>> {
         Some(Known {
             file,
             symbols: file.symbols()?.iter().collect(),
@@ -51,8 +50,7 @@ impl<'a> Known<'a> {
 
     /// The first symbol of a name.
     pub fn symbol_named(&self, name: &[u8]) -> Option<Symbol<'a>> {
-        let mut symbols = self.symbols.iter().copied();
-        symbols.find(|symbol| symbol.name == Some(name))
+        elf::first_named(self.symbols.iter().copied(), |symbol| symbol.name, name)
     }
 
     pub fn section_title(&self, index: usize) -> String {
@@ -79,8 +77,8 @@ pub(super) struct Job<'a> {
     pub statics: ConvertStatics,
     /// How many of C's sections stay.
     pub stay: usize,
-    /// A's symbols that its relocations use.
-    used: HashSet<usize>,
+    /// For each of A's symbols, whether its relocations use it.
+    used: Vec<bool>,
     /// A's symbols below this index are local.
     locals_end: usize,
 }
@@ -128,7 +126,7 @@ impl<'a> Job<'a> {
     }
 
     pub fn is_used(&self, symbol: usize) -> bool {
-        self.used.contains(&symbol)
+        self.used.get(symbol) == Some(&true)
     }
 
     /// Whether C's symbol stands in the result's list.
@@ -169,12 +167,19 @@ fn staying(file: ObjectFile, drops: bool) -> Option<usize> {
     Some(stay)
 }
 
-fn used_symbols(assembled: &Known) -> HashSet<usize> {
+/// Tables may share their entries, so that there are more uses than a file has room for: each is
+/// one look into a list.
+fn used_symbols(assembled: &Known) -> Vec<bool> {
     let file = assembled.file;
+    let mut used = vec![false; assembled.symbols.len()];
     let sections = Code::SOURCES
         .into_iter()
         .filter_map(|code| assembled.section(code));
     let tables = sections.flat_map(|section| file.tables_of(section));
-    let uses = tables.flat_map(|(_, table)| file.relocations(&table));
-    uses.map(|relocation| relocation.symbol).collect()
+    for relocation in tables.flat_map(|(_, table)| file.relocations(&table)) {
+        if let Some(used) = used.get_mut(relocation.symbol) {
+            *used = true;
+        }
+    }
+    used
 }

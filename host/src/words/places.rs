@@ -11,6 +11,8 @@ use std::collections::HashMap;
 pub(super) struct Fault {
     pub number: Number,
     pub block: usize,
+    /// The line of the block file.
+    pub line: usize,
     pub words: String,
 }
 
@@ -62,6 +64,7 @@ pub(super) fn places<'a>(
                 return Some(Err(Fault {
                     number,
                     block: index,
+                    line: span.line,
                     words: format!("{}: {fault}", span_title(index, block.desc, span)),
                 }));
             }

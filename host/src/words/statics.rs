@@ -1,7 +1,7 @@
 //! Refusal 17, and the statics. The walk over the debug entries is a second one, which is not
 //! proved; its words are used only where it stops at the entry that the library gave.
 
-use super::job::Job;
+use super::job::{Job, Known};
 use super::{Fault, in_brackets};
 use crate::codes::Code;
 use crate::elf::{self, word};
@@ -18,7 +18,7 @@ const STATICS: [u32; 2] = [2, 14];
 const OPENING: [u32; 7] = [6, 7, 11, 14, 26, 27, 28];
 const CLOSING: u32 = 8;
 
-pub(super) struct Static {
+pub(crate) struct Static {
     /// With its count, without a path.
     pub name: Vec<u8>,
     pub value: u32,
@@ -26,27 +26,34 @@ pub(super) struct Static {
 }
 
 pub(super) fn words(job: &Job, place: usize) -> Option<String> {
-    match statics(job) {
+    match statics(&job.compiled, job.statics, usize::MAX) {
         Err(fault) => fault.told_at(place),
         // then it is the 17 that comes after 20
         Ok(_) => moved_words(job).filter(|_| place == 0),
     }
 }
 
-/// The statics, or the first entry at fault. None are looked for in mode `No`.
-pub(super) fn statics(job: &Job) -> Result<Vec<Static>, Fault> {
-    let file = job.compiled.file;
+/// The statics, or the first entry at fault. None are looked for in mode `No`. Files of the debug
+/// section may share their entries, so that there are far more than bytes: `most` is how many may be
+/// looked at.
+pub(crate) fn statics(
+    compiled: &Known,
+    mode: ConvertStatics,
+    most: usize,
+) -> Result<Vec<Static>, Fault> {
+    let file = compiled.file;
     let section = file
         .section_named(b".mdebug")
         .and_then(|index| file.section(index));
-    let (Some(section), false) = (section, job.statics == ConvertStatics::No) else {
+    let (Some(section), false) = (section, mode == ConvertStatics::No) else {
         return Ok(vec![]);
     };
     let mut walk = Walk {
-        job,
+        compiled,
         statics: vec![],
         counts: HashMap::new(),
         entries: 0,
+        most,
     };
     let debug = file.contents(&section).unwrap_or_default();
     match walk.all_files(debug) {
@@ -59,17 +66,18 @@ pub(super) fn statics(job: &Job) -> Result<Vec<Static>, Fault> {
 }
 
 struct Walk<'a, 'b> {
-    job: &'b Job<'a>,
+    compiled: &'b Known<'a>,
     statics: Vec<Static>,
     /// How often a name stood above level 1.
     counts: HashMap<&'a [u8], usize>,
     entries: usize,
+    most: usize,
 }
 
 impl<'a> Walk<'a, '_> {
     /// A word of the file.
     fn word(&self, at: u64) -> Result<u32, String> {
-        let bytes = self.job.compiled.file.bytes;
+        let bytes = self.compiled.file.bytes;
         let word = usize::try_from(at).ok().and_then(|at| word(bytes, at));
         word.ok_or_else(|| {
             let length = bytes.len();
@@ -95,6 +103,9 @@ impl<'a> Walk<'a, '_> {
             let (names, first, count) = (names_at + word(8)?, word(16)?, word(20)?);
             let mut level = 0;
             for symbol in first..first + count {
+                if self.entries == self.most {
+                    return Err(format!("there are more entries than {}", self.most));
+                }
                 let entry = self.entry(symbols_at + 12 * symbol, names, level);
                 level = entry.map_err(|fault| format!("entry {}: {fault}", self.entries))?;
                 self.entries += 1;
@@ -131,7 +142,7 @@ impl<'a> Walk<'a, '_> {
                 ));
             }
         };
-        if self.job.compiled.section(code).is_none() {
+        if self.compiled.section(code).is_none() {
             let section = code.name();
             return Err(format!(
                 "its static{title} is in {section}, which is not there"
@@ -155,16 +166,20 @@ impl<'a> Walk<'a, '_> {
     }
 
     fn name(&self, at: u64) -> Result<&'a [u8], String> {
-        let start = u32::try_from(at).ok();
-        let name = start.and_then(|at| elf::string(self.job.compiled.file.bytes, at));
-        let name = name.ok_or_else(|| format!("the name at {at} has no zero end"))?;
-        if name.len() > NAME_LIMIT {
-            let length = name.len();
-            return Err(format!(
-                "the name at {at} has {length} bytes, it may have {NAME_LIMIT}"
-            ));
+        let start = usize::try_from(at).ok();
+        let rest = start.and_then(|at| self.compiled.file.bytes.get(at..));
+        let rest = rest.unwrap_or_default();
+        // Names may share one long string: each is read no further than it may be long.
+        let near = rest.get(..=NAME_LIMIT).unwrap_or(rest);
+        if let Some(name) = elf::string(near, 0) {
+            return Ok(name);
         }
-        Ok(name)
+        let name = elf::string(rest, 0);
+        let name = name.ok_or_else(|| format!("the name at {at} has no zero end"))?;
+        let length = name.len();
+        Err(format!(
+            "the name at {at} has {length} bytes, it may have {NAME_LIMIT}"
+        ))
     }
 }
 

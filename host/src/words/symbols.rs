@@ -10,7 +10,7 @@ pub(super) fn words(object: ObjectFile, place: usize) -> Option<String> {
         return (place == 0).then_some(fault);
     }
     let count = object.section_count()?;
-    let symbol = object.symbols()?.iter().nth(place)?;
+    let symbol = object.symbols()?.get(place)?;
     let st_shndx = symbol.st_shndx;
     let reserved = (elf::SHN_LORESERVE..elf::SHN_XINDEX).contains(&st_shndx);
     let fault = if symbol.name.is_none() {
