@@ -6,6 +6,7 @@
 #![forbid(unsafe_code)]
 
 mod arguments;
+mod blocks_command;
 mod files;
 
 use arguments::{Draft, Merge, Request};
@@ -25,6 +26,8 @@ enum Stop {
     Noted,
     /// Wrong usage, or a file that cannot be read or written.
     Failed(String),
+    /// What `blocks` reads is at fault. The line begins with the place.
+    Faulty(String),
 }
 
 impl From<Error> for Stop {
@@ -46,6 +49,10 @@ fn main() -> ExitCode {
     let (status, line) = match run(env::args_os().skip(1)) {
         Ok(()) => return ExitCode::SUCCESS,
         Err(Stop::Noted) => return ExitCode::from(3),
+        Err(Stop::Faulty(line)) => {
+            let _ = writeln!(io::stderr(), "{line}");
+            return ExitCode::from(2);
+        }
         Err(Stop::Refused(refusal)) => (1, refusal.to_string()),
         Err(Stop::Failed(line)) => (2, line),
     };
@@ -64,6 +71,8 @@ fn run(words: impl Iterator<Item = OsString>) -> Result<(), Stop> {
         Request::Prelude(output) => files::write(&output, PRELUDE)?,
         Request::Draft(draft) => make_draft(&draft)?,
         Request::Merge(merge) => make_merge(&merge)?,
+        Request::Blocks(blocks) => blocks_command::make(&blocks)?,
+        Request::BlocksHelp => files::print(include_bytes!("help_blocks.txt"))?,
     }
     Ok(())
 }
