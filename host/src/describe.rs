@@ -99,7 +99,7 @@ struct Span {
     label: String,
     size: u32,
     align8: u32,
-    /// The alignment of the placeholder.
+    /// The alignment of the placeholder, if one is written.
     align: u32,
 }
 

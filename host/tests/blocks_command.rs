@@ -282,6 +282,24 @@ fn sizes_are_the_assemblers() {
             1,
             "f.s: nothing here assembles to bytes outside .late_rodata",
         ),
+        (
+            "d",
+            0,
+            8,
+            "f.s: .data asks for an alignment, and has no bytes",
+        ),
+        (
+            "r",
+            1_048_577,
+            1,
+            "f.s: .rodata has more than 1048576 bytes",
+        ),
+        (
+            "l",
+            u32::MAX - 20,
+            1,
+            "f.s: .late_rodata has more than 1048576 bytes",
+        ),
         ("d", 4, 32, "f.s: .data asks for an alignment over 16"),
         ("l", 4, 16, "f.s: .late_rodata asks for an alignment over 8"),
     ] {

@@ -166,7 +166,7 @@ fn cmake_builds_the_same_program() {
     let toolchain = format!("{}/examples/cmake/mips.cmake", folder.path().display());
     printed(
         &folder,
-        &format!("cmake -G 'Unix Makefiles' {place} --toolchain {toolchain}"),
+        &format!("cmake -G 'Unix Makefiles' {place} --toolchain {toolchain} 2>&1"),
     );
     let run = || printed(&folder, "qemu-mips examples/cmake/build/board");
     let compiled = |told: &str| told.matches("Building C object").count();

@@ -4,6 +4,7 @@
 //! size where it does not stand at it.
 
 use super::{Block, Fault, Named, Span, Tools, fragment::Line, output, source::Routine};
+use crate::blocks::NUMBER_LIMIT;
 use crate::codes::Code;
 use crate::elf::{ObjectFile, Symbols};
 use std::{collections::HashMap, ffi::OsStr, path::Path};
@@ -53,11 +54,11 @@ pub(super) fn blocks(
     let mut dummy = FIRST_DUMMY;
     let numbered = routines.iter().enumerate();
     let blocks = numbered.map(|(index, routine)| {
-        let sizes = |code| {
-            let size = |found: &HashMap<_, u32>| found.get(&(index, code)).copied().unwrap_or(0);
-            ends.iter().map(size).collect::<Vec<_>>()
+        let ends_of = |code| {
+            let end = |found: &HashMap<_, u32>| found.get(&(index, code)).copied().unwrap_or(0);
+            ends.iter().map(end).collect::<Vec<_>>()
         };
-        block(index, routine, sizes, &mut dummy)
+        block(index, routine, ends_of, &mut dummy)
     });
     blocks.collect()
 }
@@ -115,7 +116,7 @@ fn marker(file: &OsStr, line: usize) -> Vec<u8> {
     format!("# {line} \"{}\"\n", output::in_quotes(file)).into_bytes()
 }
 
-/// The size of each part of each routine, counted from where it should start.
+/// Where each part of each routine ends, counted from its base.
 fn read(object: &[u8], routines: &[Routine]) -> Result<HashMap<(usize, Code), u32>, String> {
     const UNREADABLE: &str = "the assembler's object cannot be read: it must be ELF, 32-bit and \
                               big-endian (GNU as: -EB)";
@@ -125,7 +126,7 @@ fn read(object: &[u8], routines: &[Routine]) -> Result<HashMap<(usize, Code), u3
     };
     let symbols = file.symbols().ok_or(UNREADABLE)?;
     let values = values(&symbols);
-    let mut sizes = HashMap::new();
+    let mut ends = HashMap::new();
     for index in 0..routines.len() {
         for code in Code::SOURCES {
             let label = output::label(code, index);
@@ -133,9 +134,10 @@ fn read(object: &[u8], routines: &[Routine]) -> Result<HashMap<(usize, Code), u3
             let (start, end) = value("_asm_start")
                 .zip(value("_asm_end"))
                 .ok_or(UNREADABLE)?;
-            // A part may move its start label along, to the first multiple of its alignment.
-            let size = end.saturating_sub(start - start % BASE);
-            sizes.insert((index, code), size);
+            // An alignment at the start of a part moves the label too. One that moves it to the
+            // next base is over the most that is taken.
+            let base = start - start % BASE;
+            ends.insert((index, code), end.saturating_sub(base));
         }
     }
     for (index, section) in file.sections() {
@@ -155,7 +157,7 @@ fn read(object: &[u8], routines: &[Routine]) -> Result<HashMap<(usize, Code), u3
             String::from_utf8_lossy(name)
         ));
     }
-    Ok(sizes)
+    Ok(ends)
 }
 
 /// The value of each name.
@@ -166,11 +168,11 @@ fn values<'a>(symbols: &Symbols<'a>) -> HashMap<&'a [u8], u32> {
         .collect()
 }
 
-/// The block of a routine from the ends of its parts, which stand a shift behind their bases.
+/// The block of a routine from the ends of each of its parts, one for each shift.
 fn block(
     index: usize,
     routine: &Routine,
-    ends: impl Fn(Code) -> Vec<u32>,
+    ends_of: impl Fn(Code) -> Vec<u32>,
     dummy: &mut u32,
 ) -> Result<Block, Fault> {
     let fault = |words: String| Fault {
@@ -179,33 +181,37 @@ fn block(
         words,
     };
     let part = |code: Code, most: u32| {
-        let ends = ends(code);
+        let ends = ends_of(code).into_iter().zip(SHIFTS);
         let sizes: Vec<_> = ends
-            .iter()
-            .zip(SHIFTS)
-            .map(|(end, shift)| end.saturating_sub(shift))
+            .map(|(end, shift)| (end.saturating_sub(shift), shift))
             .collect();
-        let size = sizes.first().copied().unwrap_or(0);
-        let others = sizes
-            .iter()
-            .zip(SHIFTS)
-            .filter(|(other, _)| **other != size);
-        // not at the right place where it is shifted by half of what it asks for
-        let align = others
-            .map(|(_, shift)| 2 * shift)
-            .max()
-            .unwrap_or(LEAST_ALIGN);
+        let size = sizes.first().map_or(0, |(size, _)| *size);
+        // A part that asks for an alignment is not at it where it is shifted by the half of it.
+        let missed = sizes.iter().filter(|(other, _)| *other != size);
+        let align = missed.map(|(_, shift)| 2 * shift).max();
+        let align = align.unwrap_or(LEAST_ALIGN);
         if align > most {
             let name = code.name();
             return Err(fault(format!("{name} asks for an alignment over {most}")));
+        }
+        if size > NUMBER_LIMIT {
+            let name = code.name();
+            return Err(fault(format!("{name} has more than {NUMBER_LIMIT} bytes")));
         }
         Ok((size, align))
     };
     let mut spans = vec![];
     for code in Code::LINES {
         let (size, align) = part(code, MOST_ALIGN)?;
-        if size == 0 {
-            continue;
+        match (size, align) {
+            (0, LEAST_ALIGN) => continue,
+            (0, _) => {
+                let name = code.name();
+                return Err(fault(format!(
+                    "{name} asks for an alignment, and has no bytes"
+                )));
+            }
+            _ => {}
         }
         if code == Code::Text && size % 4 != 0 {
             return Err(fault(format!(
