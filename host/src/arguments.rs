@@ -14,6 +14,8 @@ pub enum Request {
     Merge(Merge),
     /// The usual prelude, into this file.
     Prelude(OsString),
+    Blocks(Blocks),
+    BlocksHelp,
 }
 
 /// Names of files; `-` is standard input or output.
@@ -68,8 +70,34 @@ impl Merge {
     }
 }
 
+/// Names of files, and the assembler's command.
+#[derive(Debug, PartialEq)]
+pub struct Blocks {
+    pub from: BlocksFrom,
+    /// Where files of assembly are looked for; where it is not given, the working folder.
+    pub base: Option<OsString>,
+    /// Where a rule for make goes, if one is asked for.
+    pub dependencies: Option<OsString>,
+    pub output: OsString,
+}
+
+#[derive(Debug, PartialEq)]
+pub enum BlocksFrom {
+    /// C with `GLOBAL_ASM`.
+    Source {
+        source: OsString,
+        /// Where the C with placeholders goes.
+        placeholders: OsString,
+        /// Where it is not given, it is the usual one.
+        prelude: Option<OsString>,
+        assembler: Option<OsString>,
+    },
+    /// A list of spans.
+    Spans(OsString),
+}
+
 /// The options, and whether they have a value.
-const OPTIONS: [(&str, bool); 7] = [
+const OPTIONS: [(&str, bool); 12] = [
     ("--prelude", true),
     ("--blocks", true),
     ("--path", true),
@@ -77,6 +105,11 @@ const OPTIONS: [(&str, bool); 7] = [
     ("--convert-statics", true),
     ("--strict", false),
     ("-o", true),
+    ("--placeholders", true),
+    ("--spans", true),
+    ("--base-dir", true),
+    ("--as", true),
+    ("--deps", true),
 ];
 
 /// The long name of a short option. Those of -h and -V are `--help` and `--version`.
@@ -99,7 +132,7 @@ pub fn parse(words: impl Iterator<Item = OsString>) -> Result<Request, String> {
         if word == "--" {
             operands.extend(words.by_ref());
         } else if word == "--help" || word == "-h" {
-            return Ok(Request::Help);
+            return Ok(help_of(&operands));
         } else if word == "--version" || word == "-V" {
             return Ok(Request::Version);
         } else if word == "-" || !word.as_bytes().starts_with(b"-") {
@@ -116,6 +149,7 @@ pub fn parse(words: impl Iterator<Item = OsString>) -> Result<Request, String> {
         b"draft" => Request::Draft(draft(&mut operands, &mut options)?),
         b"merge" => Request::Merge(merge(&mut operands, &mut options)?),
         b"prelude" => Request::Prelude(options.take("-o").unwrap_or_else(|| "-".into())),
+        b"blocks" => Request::Blocks(blocks(&mut operands, &mut options)?),
         _ => return Err(format!("there is no command {command:?}")),
     };
     if let Some(word) = operands.next() {
@@ -131,6 +165,8 @@ pub fn parse(words: impl Iterator<Item = OsString>) -> Result<Request, String> {
             Some(&draft.blocks),
         ],
         Request::Merge(merge) => [&merge.compiled, &merge.assembled, &merge.blocks].map(Some),
+        Request::Blocks(blocks) => blocks.inputs(),
+        Request::BlocksHelp => return Ok(request),
         Request::Help | Request::Version | Request::Prelude(_) => return Ok(request),
     };
     match inputs.iter().flatten().filter(|name| **name == "-").count() {
@@ -169,6 +205,59 @@ fn merge(
         strict: options.take("--strict").is_some(),
         output: options.needed("-o")?,
     })
+}
+
+/// `blocks` has a text of its own.
+fn help_of(operands: &[OsString]) -> Request {
+    match operands.first() {
+        Some(command) if command == "blocks" => Request::BlocksHelp,
+        _ => Request::Help,
+    }
+}
+
+fn blocks(
+    operands: &mut impl Iterator<Item = OsString>,
+    options: &mut Options,
+) -> Result<Blocks, String> {
+    let from = match options.take("--spans") {
+        Some(list) => BlocksFrom::Spans(list),
+        None => BlocksFrom::Source {
+            source: operands.next().ok_or("SOURCE is missing")?,
+            placeholders: options.needed("--placeholders")?,
+            prelude: options.take("--prelude"),
+            assembler: options.take("--as"),
+        },
+    };
+    let blocks = Blocks {
+        from,
+        base: options.take("--base-dir"),
+        dependencies: options.take("--deps"),
+        output: options.needed("-o")?,
+    };
+    let outputs = [blocks.placeholders(), blocks.dependencies.as_ref()];
+    let outputs = outputs.into_iter().flatten().chain([&blocks.output]);
+    match outputs.filter(|name| *name == "-").count() {
+        0 | 1 => Ok(blocks),
+        _ => Err("standard output can be one file only".into()),
+    }
+}
+
+impl Blocks {
+    fn inputs(&self) -> [Option<&OsString>; 3] {
+        match &self.from {
+            BlocksFrom::Source {
+                source, prelude, ..
+            } => [Some(source), prelude.as_ref(), None],
+            BlocksFrom::Spans(list) => [Some(list), None, None],
+        }
+    }
+
+    fn placeholders(&self) -> Option<&OsString> {
+        match &self.from {
+            BlocksFrom::Source { placeholders, .. } => Some(placeholders),
+            BlocksFrom::Spans(_) => None,
+        }
+    }
 }
 
 fn mode_of(word: &OsStr) -> Result<ConvertStatics, String> {
@@ -443,6 +532,67 @@ mod tests {
                 "draft C --prelude - --blocks - -o -",
                 "standard input can be one file only",
             ),
+        ] {
+            assert_eq!(parsed(line), Err(message.into()), "{line}");
+        }
+    }
+
+    #[test]
+    fn block_files() {
+        use super::{Blocks, BlocksFrom};
+        let blocks = |from, base: Option<&str>, dependencies: Option<&str>| {
+            Ok(Request::Blocks(Blocks {
+                from,
+                base: base.map(Into::into),
+                dependencies: dependencies.map(Into::into),
+                output: "O".into(),
+            }))
+        };
+        let source = |prelude: Option<&str>, assembler: Option<&str>| BlocksFrom::Source {
+            source: "S".into(),
+            placeholders: "T".into(),
+            prelude: prelude.map(Into::into),
+            assembler: assembler.map(Into::into),
+        };
+        for (line, expected) in [
+            (
+                "blocks S --placeholders T -o O",
+                blocks(source(None, None), None, None),
+            ),
+            (
+                "-oO blocks --as=A --prelude P --base-dir D --deps=F S --placeholders=T",
+                blocks(source(Some("P"), Some("A")), Some("D"), Some("F")),
+            ),
+            (
+                "blocks --spans L -o O --base-dir=D",
+                blocks(BlocksFrom::Spans("L".into()), Some("D"), None),
+            ),
+            ("blocks --help", Ok(Request::BlocksHelp)),
+            ("blocks S --as A --help", Ok(Request::BlocksHelp)),
+            ("--help blocks", Ok(Request::Help)),
+        ] {
+            assert_eq!(parsed(line), expected, "{line}");
+        }
+        for (line, message) in [
+            ("blocks", "SOURCE is missing"),
+            ("blocks S -o O", "--placeholders is missing"),
+            ("blocks S --placeholders T", "-o is missing"),
+            ("blocks --spans L", "-o is missing"),
+            ("blocks --spans L S -o O", "\"S\" is one word too many"),
+            ("blocks --spans L -o O --as A", "blocks has no option --as"),
+            (
+                "blocks S --placeholders T -o O --blocks B",
+                "blocks has no option --blocks",
+            ),
+            (
+                "blocks - --placeholders T --prelude - -o O",
+                "standard input can be one file only",
+            ),
+            (
+                "blocks S --placeholders - -o -",
+                "standard output can be one file only",
+            ),
+            ("prelude --deps D", "prelude has no option --deps"),
         ] {
             assert_eq!(parsed(line), Err(message.into()), "{line}");
         }

@@ -6,7 +6,7 @@ use crate::codes::Code;
 pub(crate) const BLOCK_LIMIT: usize = 1024;
 
 /// The largest number of a block file, an align8 apart.
-const NUMBER_LIMIT: u32 = 1_048_576;
+pub(crate) const NUMBER_LIMIT: u32 = 1_048_576;
 const ALIGN8_LIMIT: u32 = 8;
 
 /// A key of a block, and what document 01 lets stand behind it.

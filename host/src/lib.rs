@@ -21,6 +21,7 @@
 mod blocks;
 pub mod call;
 mod codes;
+pub mod describe;
 mod elf;
 mod notes;
 mod refusal;

@@ -7,6 +7,7 @@
 #![deny(unsafe_code)]
 
 mod arguments;
+mod blocks_command;
 mod files;
 mod standard;
 
@@ -39,6 +40,8 @@ enum Stop {
     Noted,
     /// Wrong usage, or a file that cannot be read or written.
     Failed(String),
+    /// What `blocks` reads is at fault. The line begins with the place.
+    Faulty(String),
 }
 
 impl From<String> for Stop {
@@ -53,6 +56,7 @@ fn main() -> ExitCode {
         Err(Stop::Noted) => return ExitCode::from(3),
         Err(Stop::Refused(start, refusal)) => (1, format!("{start}: {refusal}")),
         Err(Stop::Failed(line)) => (2, format!("daphulle: {line}")),
+        Err(Stop::Faulty(line)) => (2, line),
     };
     // Not `eprintln`, which panics where standard error is closed: the status still tells.
     let _ = writeln!(io::stderr(), "{line}");
@@ -67,6 +71,8 @@ fn run(words: impl Iterator<Item = OsString>) -> Result<(), Stop> {
         Request::Prelude(output) => files::write(&output, PRELUDE)?,
         Request::Draft(draft) => make_draft(&draft)?,
         Request::Merge(merge) => make_merge(&merge)?,
+        Request::Blocks(blocks) => blocks_command::make(&blocks)?,
+        Request::BlocksHelp => files::print(include_bytes!("help_blocks.txt"))?,
     }
     Ok(())
 }

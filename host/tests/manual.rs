@@ -12,7 +12,10 @@ use std::{
 
 const MANUAL: &str = include_str!("../../docs/MANUAL.md");
 const MAN_PAGE: &str = include_str!("../man/daphulle.1");
-const HELP: &str = include_str!("../src/help.txt");
+const HELP: &str = concat!(
+    include_str!("../src/help.txt"),
+    include_str!("../src/help_blocks.txt")
+);
 /// The README of the host.
 const HOST: &str = include_str!("../README.md");
 /// The limits of the definitions.
