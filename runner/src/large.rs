@@ -15,6 +15,8 @@ pub struct Size {
     pub names: usize,
     /// Of each object.
     pub relocations: usize,
+    /// Tables of C over the bytes of one.
+    pub tables: usize,
     pub statics: usize,
     pub spelling: Spelling,
 }
@@ -38,6 +40,7 @@ pub fn sizes() -> Vec<(String, Size)> {
         blocks: 10,
         names: 18,
         relocations: 20,
+        tables: 1,
         statics: 4,
         spelling,
     };
@@ -45,6 +48,7 @@ pub fn sizes() -> Vec<(String, Size)> {
         blocks: 128,
         names: 256,
         relocations: 256,
+        tables: 1,
         statics: 64,
         spelling,
     };
@@ -97,6 +101,12 @@ pub fn sizes() -> Vec<(String, Size)> {
         let name = format!("ends of one string of {length} bytes and more");
         rows.push((name, hostile(names, Spelling::Shared(length))));
     }
+    let shared = Size {
+        relocations: 4000,
+        tables: 118,
+        ..small
+    };
+    rows.push(("118 tables over the same bytes".into(), shared));
     rows
 }
 
@@ -122,7 +132,7 @@ impl Spelling {
 
 impl Size {
     pub fn is_hostile(self) -> bool {
-        !self.spelling.is_plain()
+        !self.spelling.is_plain() || self.tables > 1
     }
 }
 
@@ -173,8 +183,8 @@ pub fn merge(size: Size) -> Job {
     ];
     let last = debug(size).into_iter().collect();
     Job {
-        compiled: object(size, of_c_sections, last, of_c, 20),
-        second: object(size, of_a_sections, vec![], of_a, 0),
+        compiled: sharing(object(size, of_c_sections, last, of_c, 20)),
+        second: object(Size { tables: 1, ..size }, of_a_sections, vec![], of_a, 0),
         blocks: blocks.into_bytes(),
         merge: Some(Settings {
             path: b"c.o".to_vec(),
@@ -231,22 +241,36 @@ fn object(
         kind: 5,
         addend: 0,
     });
-    let table = Table {
+    let table = |entries| Table {
         target: ".text",
         goal: ".text",
         rela: false,
-        entries: entries.collect(),
+        entries,
     };
+    let empty = (1..size.tables).map(|_| table(vec![]));
+    let tables = [table(entries.collect())].into_iter().chain(empty);
     let parts = Parts {
         sections,
         last,
         symbols,
-        tables: vec![table],
+        tables: tables.collect(),
         locals: 1,
         merged: Some(!size.spelling.is_plain()),
     };
     // A seed whose object has none of the forms that document 01 refuses.
     object_of(&mut Random::new(1, 2), parts)
+}
+
+/// Every table over the bytes of the first.
+fn sharing(mut file: Vec<u8>) -> Vec<u8> {
+    let headers: Vec<usize> = headers(&file).collect();
+    let mut tables = headers.into_iter().filter(|&at| word(&file, at + 4) == 9);
+    let first = tables.next().map(|at| at + 16..at + 24);
+    let others: Vec<usize> = tables.collect();
+    for at in others {
+        file.copy_within(first.clone().unwrap_or_default(), at + 16);
+    }
+    file
 }
 
 /// A debug section with a file of statics.
@@ -267,11 +291,19 @@ fn debug(size: Size) -> Option<Section> {
 
 /// How many symbols an object has.
 pub fn symbols(file: &[u8]) -> usize {
-    let word = |at: usize| match file.get(at..at + 4) {
+    let table = headers(file).find(|at| word(file, at + 4) == 2);
+    table.map_or(0, |at| word(file, at + 20) / 16)
+}
+
+/// Where the section headers stand.
+fn headers(file: &[u8]) -> impl Iterator<Item = usize> {
+    let (from, many) = (word(file, 32), word(file, 48) >> 16);
+    (0..many).map(move |i| from + 40 * i)
+}
+
+fn word(file: &[u8], at: usize) -> usize {
+    match file.get(at..at + 4) {
         Some(b) => u32::from_be_bytes([b[0], b[1], b[2], b[3]]) as usize,
         None => 0,
-    };
-    let headers = (0..word(48) >> 16).map(|i| word(32) + 40 * i);
-    let table = headers.into_iter().find(|at| word(at + 4) == 2);
-    table.map_or(0, |at| word(at + 20) / 16)
+    }
 }
