@@ -8,7 +8,7 @@ use native.Mathlib.Omega.{arith}
 use lib.ListN.{length, length-append}
 use Rattle.base_lists.specs.Ranges.{least, count, gather}
 use Rattle.base_lists.specs.Windows.{spliced}
-use Rattle.base_lists.proofs.Ranges.{by-test, count-zero, count-next, gather-zero, gather-yes, gather-no, gather-append, gather-length, least-zero, least-next, least-high}
+use Rattle.base_lists.proofs.Ranges.{by-test, count-zero, count-next, count-all, count-same, gather-zero, gather-yes, gather-no, gather-append, gather-length, least-zero, least-next, least-high}
 use Rattle.base_lists.proofs.Windows.{spliced-nil, spliced-then}
 use Rattle.base_fields.specs.declared.ByteOrder.{ByteOrder}
 use Rattle.base_fields.specs.Layouts.{widthOf}
@@ -26,7 +26,8 @@ use Rattle.carry_entries.specs.declared.Side.{Side}
 use Rattle.carry_entries.specs.declared.EntryTable.{EntryTable}
 use Rattle.carry_entries.specs.Entries.{isLeftOut, Carrying, OFFSETS, entryGoal, entrySymbol, isKept, carriedEntry}
 use Rattle.carry_entries.specs.Entries.{keptCount, carriedBytes, isLost, lossIn, lossAt, lossFinding}
-use Rattle.carry_entries.specs.Code.{pickTables, goalIn, carryingIn, isKeptEntry, symbolIn, isLostEntry, carriedTo, isKeptIn, keptIn, broughtBytes, entryTableOf, TableRead}
+use Rattle.carry_entries.specs.Code.{pickTables, goalIn, carryingIn, isKeptEntry, symbolIn, isLostEntry, carriedTo, isKeptIn, keptIn, keepsAll, broughtBytes, entryTableOf, TableRead}
+use Rattle.carry_entries.proofs.Goals.{keeps-entry}
 
 -- ---- how long an entry is
 
@@ -251,6 +252,17 @@ module _ (o : ByteOrder) (F : List ℕ) (t : ℕ) (table : EntryTable) (is : tab
 module _ (F : List ℕ) (s : Side) (rows late : List ℕ) (t : ℕ) where
   pub kept-none : 0 ≡ count (isKeptIn F s rows late t) 0
   kept-none = sym (count-zero (isKeptIn F s rows late t))
+
+  -- where none can be left out
+  pub kept-all : (table : EntryTable) → table ≡ entryTableOf (s .order) F t → (b : Bool) → b ≡ keepsAll s (table .code) → b ≡ true
+      → (n : ℕ) → n ≡ relocationCount (s .order) F t → n ≡ keptIn F s rows late t
+  unfolding keptIn isKeptIn entryTableOf
+  kept-all table is b all y n e =
+      let code : table .code ≡ codeOf (s .order) F (section (s .order) F t .«sh_info») = ap (λ (x : EntryTable). x .code) is in
+      let yes : keepsAll s (codeOf (s .order) F (section (s .order) F t .«sh_info»)) ≡ true = ap (keepsAll s) (sym code) ∙ sym all ∙ y in
+      e ∙ sym (count-all _)
+      ∙ count-same (λ i. true) (isKeptIn F s rows late t) (relocationCount (s .order) F t) (λ k h.
+      sym (keeps-entry s rows late (codeOf (s .order) F (section (s .order) F t .«sh_info»)) yes (relocation (s .order) F t k)))
 
   module _ (k kept : ℕ) (so-far : kept ≡ count (isKeptIn F s rows late t) k) where
     pub kept-next : (i : ℕ) → i ≡ t → (b : Bool) → b ≡ isKeptIn F s rows late i k → (r : ℕ) → r ≡ cond b 1 0 → kept + r ≡ count (isKeptIn F s rows late t) (k + 1)

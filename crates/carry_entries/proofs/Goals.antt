@@ -1,22 +1,37 @@
 -- What each way through the code says of one entry: where it goes, what its symbol becomes, and whether it is lost. Assumes nothing.
-use Prim.Native.Nat.{ℕ, zero, suc, _+_, _^_, _<_}
+use Prim.Native.Nat.{ℕ, zero, suc, _+_, _*_, _^_, _≤_, _<_}
 use mathlib.Core.Path.{_≡_, refl, sym, ap, _∙_}
-use mathlib.Core.Bool.{Bool, true, false, not, _&&_}
+use mathlib.Core.Bool.{Bool, true, false, not, _&&_, _||_}
 use mathlib.Core.List.{List}
 use native.Mathlib.Omega.{arith}
-use borrow.Author.Tests.{eq-eqb, ne-eqb}
-use Rattle.base_lists.proofs.Ranges.{by-lt, and-parts}
+use lib.ListN.{length}
+use lib.Dec.{eqb, leb, ltb}
+use borrow.Author.Tests.{eq-eqb, ne-eqb, leb-true, ltb-true}
+use Rattle.base_lists.proofs.Ranges.{by-test, both, by-lt, and-parts}
 use Rattle.base_fields.specs.declared.ByteOrder.{ByteOrder}
+use Rattle.base_fields.specs.Numbers.{number}
+use Rattle.base_fields.specs.Layouts.{widthOf}
 use Rattle.base_packed.specs.Packed.{symbolOf, kindOf, relocationInfo}
 use Rattle.base_scope.specs.Codes.{LATE-RODATA, leavesOut, isLateTarget}
+use Rattle.base_scope.specs.Elf.{SHT_RELA}
 use Rattle.elf_records.specs.declared.relocation.RelocationEntry.{RelocationEntry}
 use Rattle.elf_records.specs.declared.section.SectionHeader.{SectionHeader}
+use Rattle.elf_records.specs.Relocation.{relocationLayout, relocationAt}
+use Rattle.elf_records.proofs.Offsets.{relocation-offset}
+use Rattle.elf_records.proofs.RoundTrip.{rela-width, rel-width}
 use Rattle.elf_readers.specs.Readers.{section}
-use Rattle.elf_relocations.specs.Relocations.{isTable, entrySize, relocation}
+use Rattle.elf_readers.specs.Bounds.{Headed}
+use Rattle.elf_relocations.specs.Relocations.{isRela, isTable, entrySize, relocationCount, relocation}
+use Rattle.elf_relocations.proofs.Relocations.{rela-read, relocation-inside}
 use Rattle.elf_check.specs.declared.View.{View}
 use Rattle.elf_check.specs.View.{viewOf}
-use Rattle.blocks_spans.specs.Spans.{replacedWord}
-use Rattle.blocks_spans.specs.Table.{spansIn}
+use Rattle.blocks_spans.specs.declared.Span.{Span}
+use Rattle.blocks_spans.specs.declared.NextSpan.{NextSpan}
+use Rattle.blocks_spans.specs.declared.NextSpan.the-variants.{NoSpan, Next}
+use Rattle.blocks_spans.specs.Spans.{spanAt, replacedWord}
+use Rattle.blocks_spans.specs.Table.{spansIn, Rows, spanFrom, nextSpan}
+use Rattle.blocks_spans.proofs.Spans.{replaced-none}
+use Rattle.blocks_spans.proofs.Table.{told-none, told-span, from-none, from-gap}
 use Rattle.late_lookups.specs.declared.LatePlace.{LatePlace}
 use Rattle.late_lookups.specs.declared.LatePlace.the-variants.{Moved, Unmoved as NotMoved}
 use Rattle.late_lookups.specs.Fields.{offsetAt, jumpAt}
@@ -32,9 +47,10 @@ use Rattle.carry_entries.specs.declared.Goal.{Goal}
 use Rattle.carry_entries.specs.declared.Goal.the-variants.{To, LeftOut, Unmoved}
 use Rattle.carry_entries.specs.declared.Side.{Side}
 use Rattle.carry_entries.specs.declared.EntryTable.{EntryTable}
+use Rattle.carry_entries.specs.declared.Gap.{Gap}
 use Rattle.carry_entries.specs.Entries.{isLeftOut, isStuck, goalPlace, isInResult, newNumber}
 use Rattle.carry_entries.specs.Carried.{pickGoal}
-use Rattle.carry_entries.specs.Code.{lateGoal, pickTables, isGoneIn, goalIn, isKeptEntry, symbolIn, isLostEntry, carriedTo, isKeptIn, entryTableOf, SymbolsRead}
+use Rattle.carry_entries.specs.Code.{lateGoal, pickTables, isGoneIn, goalIn, isKeptEntry, symbolIn, isLostEntry, carriedTo, isKeptIn, keepsAll, entryTableOf, TableRead, IsGap, SymbolsRead}
 
 -- ---- one test behind another
 
@@ -49,6 +65,36 @@ and-then t a b d e y n = rw (← e, y, n)
 
 pub and-both : (t a b d r : Bool) → t ≡ a → t ≡ true → b ≡ true → r ≡ d → r ≡ (a && (b && d))
 and-both t a b d r e y z f = rw (← e, y, z) f
+
+-- ---- gaps between the spans
+
+and-none : (a : Bool) → false ≡ (a && false)
+and-none true = refl
+and-none false = refl
+
+module _ (rows : List ℕ) (n : ℕ) where
+  pub gap-none : (g : Gap) → g .high ≡ 0 → IsGap rows n g
+  gap-none g e = record { clear = λ x l u. absurd (omega (arith, e)) }
+
+  module _ (w : Rows rows n) (k : ℕ) (r : NextSpan) (found : r ≡ nextSpan (spansIn rows n) k) where
+    pub gap-behind : r ≡ NoSpan → (m : ℕ) → IsGap rows n (record { low = k; high = m })
+    gap-behind t m = record {
+      clear = λ x l u. replaced-none (spansIn rows n) x (from-none (spansIn rows n) (w .ascends) k (told-none (spansIn rows n) k (sym found ∙ t)) x l);
+    }
+
+    pub gap-before : (s : Span) → r ≡ Next s → IsGap rows n (record { low = k; high = s .place })
+    gap-before s t = record {
+      clear = λ x l u.
+          let h = told-span (spansIn rows n) k s (sym found ∙ t) in
+          let p : s .place ≡ spanAt (spansIn rows n) (spanFrom (spansIn rows n) k) .place = ap (λ (y : Span). y .place) (h .1) in
+          replaced-none (spansIn rows n) x (from-gap (spansIn rows n) (w .ascends) k (h .0) x l (rw p at u));
+    }
+
+  module _ (g : Gap) (w : IsGap rows n g) (x : ℕ) (t : Bool) (e : t ≡ (leb (g .low) x && ltb x (g .high))) where
+    pub gap-clear : t ≡ true → (a : Bool) → false ≡ (a && replacedWord (spansIn rows n) x)
+    gap-clear y a =
+        let p = and-parts (leb (g .low) x) (ltb x (g .high)) (sym e ∙ y) in
+        rw (w .clear x (leb-true _ _ (p .0)) (ltb-true _ _ (p .1))) (and-none a)
 
 -- ---- where an entry goes
 
@@ -150,10 +196,11 @@ module _ (s : Side) (rows late N : List ℕ) (c : ℕ) (e : RelocationEntry) (g 
 -- ---- tables
 
 module _ (o : ByteOrder) (F : List ℕ) (t : ℕ) where
-  pub table-read : (v : View) → v ≡ viewOf o F → (h : SectionHeader) → h ≡ section o F t → (c : ℕ) → c ≡ codeIn v (h .«sh_info») → (z : ℕ) → z ≡ entrySize o F t
-      → _≡_ {A = EntryTable} (record { index = t; code = c; size = z }) (entryTableOf o F t)
-  unfolding entryTableOf
-  table-read v r h is c e z q = rw (e, code-is o F v r (h .«sh_info»), is, q)
+  pub table-read : (v : View) → v ≡ viewOf o F → (h : SectionHeader) → h ≡ section o F t → (c : ℕ) → c ≡ codeIn v (h .«sh_info»)
+      → (z : ℕ) → z ≡ widthOf (relocationLayout (eqb (h .«sh_type») SHT_RELA))
+      → _≡_ {A = EntryTable} (record { index = t; code = c; at = h .«sh_offset»; rela = eqb (h .«sh_type») SHT_RELA; size = z }) (entryTableOf o F t)
+  unfolding entryTableOf entrySize
+  table-read v r h is c e z q = rw (e, code-is o F v r (h .«sh_info»), q, rela-read o F t h is, is)
 
   module _ (r : Bool) (b : Bool) where
     pub tables-compiled : b ≡ true → r ≡ isTable o F t → (r ≡ pickTables b (isTable o F) (isCarried o F) t) × (r ≡ true → isTable o F t ≡ true)
@@ -166,11 +213,98 @@ module _ (o : ByteOrder) (F : List ℕ) (t : ℕ) where
     pub tables-assembled : b ≡ false → r ≡ isCarried o F t → (r ≡ pickTables b (isTable o F) (isCarried o F) t) × (r ≡ true → isTable o F t ≡ true)
     tables-assembled n e = (rw n e, λ q. carried-table (sym e ∙ q))
 
+pub width-rela : (b : Bool) → b ≡ true → 12 ≡ widthOf (relocationLayout b)
+width-rela b y = rw y (sym rela-width)
+
+pub width-rel : (b : Bool) → b ≡ false → 8 ≡ widthOf (relocationLayout b)
+width-rel b n = rw n (sym rel-width)
+
+-- entry k of a table in hand lies in the file, where it says
+module _ (o : ByteOrder) (F : List ℕ) (table : EntryTable) (k : ℕ) (read : TableRead o F table) where
+  at-same : table .at ≡ section o F (table .index) .«sh_offset»
+  unfolding entryTableOf
+  at-same = ap (λ (x : EntryTable). x .at) (read .is)
+
+  rela-same : table .rela ≡ isRela o F (table .index)
+  unfolding entryTableOf
+  rela-same = ap (λ (x : EntryTable). x .rela) (read .is)
+
+  width-same : table .size ≡ entrySize o F (table .index)
+  unfolding entryTableOf
+  width-same = ap (λ (x : EntryTable). x .size) (read .is)
+
+  pub entry-width : table .size ≡ widthOf (relocationLayout (table .rela))
+  unfolding entrySize
+  entry-width = rw (rela-same) width-same
+
+  pub entry-inside : Headed o F → k < relocationCount o F (table .index) → table .at + table .size * k + table .size ≤ length F
+  entry-inside h l = rw (at-same, width-same) (relocation-inside o F (table .index) k h (record { table = read .below; kind = read .kind; entry = l }))
+
+  pub word-inside : Headed o F → k < relocationCount o F (table .index) → table .at + table .size * k + 4 ≤ length F
+  word-inside h l = by-test (table .rela)
+      (λ y. let w = entry-width ∙ sym (width-rela (table .rela) y) in omega (arith, w, entry-inside h l))
+      (λ n. let w = entry-width ∙ sym (width-rel (table .rela) n) in omega (arith, w, entry-inside h l))
+
+  pub entry-read : relocationAt o (table .rela) F (table .at + table .size * k) ≡ relocation o F (table .index) k
+  unfolding relocation
+  entry-read = rw (at-same, rela-same, width-same)
+
+  pub offset-read : number o 4 F (table .at + table .size * k) ≡ relocation o F (table .index) k .«r_offset»
+  offset-read = sym (relocation-offset o F (table .at + table .size * k) (table .rela)) ∙ ap (λ (e : RelocationEntry). e .«r_offset») entry-read
+
+-- ---- none is left out
+
+module _ (s : Side) (c : ℕ) where
+  pub keeps-assembled : s .compiled ≡ false → true ≡ keepsAll s c
+  unfolding keepsAll
+  keeps-assembled n = rw n
+
+  module _ (y : s .compiled ≡ true) (a : Bool) (out : a ≡ leavesOut c) where
+    pub keeps-not : a ≡ true → false ≡ keepsAll s c
+    unfolding keepsAll
+    keeps-not e = rw (y, ← out, e)
+
+    module _ (n : a ≡ false) (b : Bool) (late : b ≡ isLateTarget c) where
+      pub keeps-idle : b ≡ true → not (s .runs) ≡ keepsAll s c
+      unfolding keepsAll
+      keeps-idle e = rw (y, ← out, n, ← late, e)
+
+      pub keeps-other : b ≡ false → true ≡ keepsAll s c
+      unfolding keepsAll
+      keeps-other e = rw (y, ← out, n, ← late, e)
+
+none-gone : (a b d r j : Bool) → not (a || (b && d)) ≡ true → ((a && r) || (b && (d && j))) ≡ false
+none-gone true b d r j e = both e refl
+none-gone false true true r j e = both e refl
+none-gone false true false r j e = refl
+none-gone false false d r j e = refl
+
+late-kept : (runs : Bool) (p : LatePlace) → isLeftOut (pickGoal runs (lateGoal p) Unmoved) ≡ false
+unfolding isLeftOut lateGoal
+late-kept true (Moved x) = refl
+late-kept true NotMoved = refl
+late-kept false p = refl
+
+module _ (s : Side) (rows late : List ℕ) (c : ℕ) (all : keepsAll s c ≡ true) where
+  goal-kept : (x : ℕ) → isLeftOut (goalIn s rows late c x) ≡ false
+  unfolding goalIn isGoneIn keepsAll isLeftOut
+  goal-kept x = by-test (s .compiled)
+      (λ y.
+      let e : not (leavesOut c || (isLateTarget c && s .runs)) ≡ true = rw y at all in
+      rw (y, none-gone (leavesOut c) (isLateTarget c) (s .runs) (replacedWord (spansIn rows (s .spans)) x) (jumpAt late (s .blocks) x) e))
+      (λ n. by-test (eqb c LATE-RODATA)
+      (λ l. rw (n, l) (late-kept (s .runs) (offsetAt late (s .blocks) x)))
+      (λ l. rw (n, l)))
+
+  pub keeps-entry : (e : RelocationEntry) → isKeptEntry s rows late c e ≡ true
+  unfolding isKeptEntry
+  keeps-entry e = rw (goal-kept (e .«r_offset»))
+
 -- entry k of a table in hand is kept
 module _ (F : List ℕ) (s : Side) (rows late : List ℕ) (table : EntryTable) (k : ℕ) where
-  pub kept-read : table ≡ entryTableOf (s .order) F (table .index) → (e : RelocationEntry) → e ≡ relocation (s .order) F (table .index) k
-      → (g : Goal) → g ≡ goalIn s rows late (table .code) (e .«r_offset») → (t : Bool) → t ≡ isLeftOut g → not t ≡ isKeptIn F s rows late (table .index) k
+  pub kept-read : table ≡ entryTableOf (s .order) F (table .index) → (x : ℕ) → x ≡ relocation (s .order) F (table .index) k .«r_offset»
+      → (g : Goal) → g ≡ goalIn s rows late (table .code) x → (t : Bool) → t ≡ isLeftOut g → not t ≡ isKeptIn F s rows late (table .index) k
   unfolding isKeptIn isKeptEntry entryTableOf
-  kept-read is e entry g goal t out =
-      let code : table .code ≡ codeOf (s .order) F (section (s .order) F (table .index) .«sh_info») = ap (λ (x : EntryTable). x .code) is in
-      rw (← code, ← entry, ← goal, ← out)
+  kept-read is x offset g goal t out =
+      let code : table .code ≡ codeOf (s .order) F (section (s .order) F (table .index) .«sh_info») = ap (λ (y : EntryTable). y .code) is in
+      rw (← code, ← offset, ← goal, ← out)

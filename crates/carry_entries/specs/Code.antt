@@ -13,7 +13,7 @@ use Rattle.base_scope.specs.Codes.{LATE-RODATA, leavesOut, isLateTarget}
 use Rattle.elf_records.specs.declared.relocation.RelocationEntry.{RelocationEntry}
 use Rattle.elf_records.specs.Relocation.{relocationBytes}
 use Rattle.elf_readers.specs.Readers.{sectionCount, section}
-use Rattle.elf_relocations.specs.Relocations.{isTable, entrySize, relocationCount, relocation}
+use Rattle.elf_relocations.specs.Relocations.{isRela, isTable, entrySize, relocationCount, relocation}
 use Rattle.elf_check.specs.View.{Viewed}
 use Rattle.blocks_spans.specs.Spans.{replacedWord}
 use Rattle.blocks_spans.specs.Table.{spansIn, Rows}
@@ -30,6 +30,7 @@ use Rattle.carry_entries.specs.declared.Goal.{Goal}
 use Rattle.carry_entries.specs.declared.Goal.the-variants.{To, LeftOut, Unmoved}
 use Rattle.carry_entries.specs.declared.Side.{Side}
 use Rattle.carry_entries.specs.declared.EntryTable.{EntryTable}
+use Rattle.carry_entries.specs.declared.Gap.{Gap}
 use Rattle.carry_entries.specs.Entries.{Carrying, isLeftOut, isStuck, goalPlace, isInResult, newNumber, isKept, carriedEntry}
 use Rattle.carry_entries.specs.Carried.{pickGoal}
 
@@ -95,6 +96,10 @@ isKeptIn F s rows late t k = isKeptEntry s rows late (codeOf (s .order) F (secti
 unfoldable pub keptIn : List ℕ → Side → List ℕ → List ℕ → ℕ → ℕ
 keptIn F s rows late t = count (isKeptIn F s rows late t) (relocationCount (s .order) F t)
 
+-- no entry for the section of code c can be left out (proofs/Goals.antt, `keeps-entry`)
+unfoldable pub keepsAll : Side → ℕ → Bool
+keepsAll s c = not (s .compiled && (leavesOut c || (isLateTarget c && s .runs)))
+
 -- the bytes that entry k of table t brings
 unfoldable pub broughtBytes : ByteOrder → List ℕ → Carrying → ℕ → ℕ → List ℕ
 broughtBytes o F w t k = pickList (isKept o F w t k) (relocationBytes o (carriedEntry o F w t k)) []
@@ -103,13 +108,23 @@ broughtBytes o F w t k = pickList (isKept o F w t k) (relocationBytes o (carried
 
 -- table t
 unfoldable pub entryTableOf : ByteOrder → List ℕ → ℕ → EntryTable
-entryTableOf o F t = record { index = t; code = codeOf o F (section o F t .«sh_info»); size = entrySize o F t }
+entryTableOf o F t = record {
+  index = t;
+  code = codeOf o F (section o F t .«sh_info»);
+  at = section o F t .«sh_offset»;
+  rela = isRela o F t;
+  size = entrySize o F t;
+}
 
 -- it is a table, and has been read
 pub record TableRead (o : ByteOrder) (F : List ℕ) (table : EntryTable) : Type 0 where
   pub below : table .index < sectionCount o F
   pub kind : isTable o F (table .index) ≡ true
   pub is : table ≡ entryTableOf o F (table .index)
+
+-- no offset in a gap is the start of a replaced word
+pub record IsGap (rows : List ℕ) (n : ℕ) (gap : Gap) : Type 0 where
+  pub clear : (x : ℕ) → gap .low ≤ x → x < gap .high → replacedWord (spansIn rows n) x ≡ false
 
 -- where entries go can be read
 pub record GoalsRead (F : List ℕ) (s : Side) (rows late : List ℕ) : Type 0 where

@@ -4,10 +4,14 @@ ghost use mathlib.Core.Path.{_≡_};
 ghost use mathlib.Core.Bool.{true, cond, _&&_};
 ghost use Prim.Native.Nat.{_+_, _≤_, _<_, min};
 ghost use lib.ListN.{length};
+ghost use lib.Dec.{leb, ltb};
 ghost use Rattle.base_lists.specs.Windows.{spliced};
 ghost use Rattle.base_packed.specs.Packed.{kindOf, relocationInfo};
 ghost use Rattle.base_scope.specs.Codes.{leavesOut, isLateTarget};
+ghost use Rattle.base_fields.specs.Layouts.{widthOf};
+ghost use Rattle.elf_records.specs.Relocation.{relocationLayout};
 ghost use Rattle.elf_readers.specs.Readers.{sectionCount};
+ghost use Rattle.elf_readers.specs.Bounds.{Headed};
 ghost use Rattle.elf_relocations.specs.Relocations.{isTable, relocationCount, relocation};
 ghost use Rattle.elf_check.specs.View.{Viewed};
 ghost use Rattle.blocks_spans.specs.Spans.{replacedWord};
@@ -18,11 +22,12 @@ ghost use Rattle.carry_clash.specs.Clash.{isCarried};
 ghost use Rattle.carry_entries.specs.declared.Goal.the-variants.{Unmoved};
 ghost use Rattle.carry_entries.specs.Entries.{isLeftOut, isStuck, goalPlace, isInResult, newNumber, OFFSETS, carriedBytes, isLost, lossIn, lossFinding};
 ghost use Rattle.carry_entries.specs.Carried.{pickGoal};
-ghost use Rattle.carry_entries.specs.Code.{lateGoal, pickTables, isGoneIn, goalIn, carryingIn, isKeptIn, symbolIn, isLostEntry, carriedTo};
-ghost use Rattle.carry_entries.specs.Code.{keptIn, broughtBytes, entryTableOf, TableRead, GoalsRead, SymbolsRead, EntriesRead};
+ghost use Rattle.carry_entries.specs.Code.{lateGoal, pickTables, isGoneIn, goalIn, carryingIn, isKeptIn, keepsAll, symbolIn, isLostEntry, carriedTo};
+ghost use Rattle.carry_entries.specs.Code.{keptIn, broughtBytes, entryTableOf, TableRead, IsGap, GoalsRead, SymbolsRead, EntriesRead};
 use base_fields::ByteOrder;
 use base_packed::MergedSymbol;
 use base_scope::Finding;
+use blocks_spans::NextSpan;
 use elf_check::View;
 use elf_records::RelocationEntry;
 use late_lookups::LatePlace;
@@ -50,19 +55,61 @@ pub struct Side {
     pub first: usize,
 }
 
-// A relocation table: its section, the code of the section that it relocates, and the bytes of an entry.
+// A relocation table: its section, the code of the section that it relocates, where its entries start in the file, whether they have addends, and the bytes of an entry.
 struct EntryTable {
     pub index: usize,
     pub code: u32,
+    pub at: usize,
+    pub rela: bool,
     pub size: usize,
 }
 
+// Offsets from `low` up to `high`, none of which starts a replaced word. Entries mostly ascend, so the gap of one often tells of the next.
+struct Gap {
+    pub low: usize,
+    pub high: usize,
+}
+
+// Whether offset x is in a gap.
+fn is_in_gap(gap: Gap, x: usize) -> bool
+    ensures { λ r. ⌜ r ≡ (leb (gap .low) x && ltb x (gap .high)) ⌝ }
+{
+    base_scope::both(gap.low <= x, x < gap.high)
+}
+
+// A gap that holds nothing.
+fn no_gap() -> Gap
+    ensures { λ r. ⌜ r .high ≡ 0 ⌝ }
+{
+    Gap { low: 0, high: 0 }
+}
+
+// The gap from offset x on: up to the next span, and empty where one covers x.
+fn gap_from(rows: &[u8], n: usize, x: usize) -> Gap
+    requires { ⌜ Rows (now rows) n ⌝ }
+    ensures { λ r. ⌜ IsGap (now (rows .entry)) n r ⌝ }
+{
+    match blocks_spans::next_span(rows, n, x) {
+        NextSpan::NoSpan => Gap {
+            low: x,
+            high: OFFSETS,
+        },
+        NextSpan::Next(s) => Gap {
+            low: x,
+            high: s.place,
+        },
+    }
+}
+
 // Whether a word starts at offset x of the section of a code that a block's copy replaces; entries for it are left out.
-fn is_replaced(side: Side, rows: &[u8], code: u32, x: u32) -> bool
-    requires { ⌜ Rows (now rows) (side .spans) ⌝ }
+fn is_replaced(side: Side, rows: &[u8], code: u32, x: u32, gap: Gap) -> bool
+    requires { ⌜ Rows (now rows) (side .spans) × IsGap (now rows) (side .spans) gap ⌝ }
     ensures { λ r. ⌜ r ≡ (leavesOut code && replacedWord (spansIn (now (rows .entry)) (side .spans)) x) ⌝ }
 {
     if base_scope::leaves_out(code) {
+        if is_in_gap(gap, x as usize) {
+            return false;
+        }
         let n = side.spans;
         return blocks_spans::is_replaced(rows, n, x as usize);
     }
@@ -85,11 +132,11 @@ fn is_jump(side: Side, late: &[u8], code: u32, x: u32) -> bool
 }
 
 // Whether the word at offset x of C's section of a code is written anew.
-fn is_gone(side: Side, rows: &[u8], late: &[u8], code: u32, x: u32) -> bool
-    requires { ⌜ Rows (now rows) (side .spans) × LateIn (side .runs) (now late) (side .blocks) ⌝ }
+fn is_gone(side: Side, rows: &[u8], late: &[u8], code: u32, x: u32, gap: Gap) -> bool
+    requires { ⌜ Rows (now rows) (side .spans) × LateIn (side .runs) (now late) (side .blocks) × IsGap (now rows) (side .spans) gap ⌝ }
     ensures { λ r. ⌜ r ≡ isGoneIn side (now (rows .entry)) (now (late .entry)) code x ⌝ }
 {
-    if is_replaced(side, rows, code, x) {
+    if is_replaced(side, rows, code, x, gap) {
         return true;
     }
     is_jump(side, late, code, x)
@@ -110,12 +157,12 @@ fn late_goal(runs: bool, late: &[u8], blocks: usize, x: u32) -> Goal
 }
 
 // Where an entry at offset x of the section of a code goes.
-fn goal_of(side: Side, rows: &[u8], late: &[u8], code: u32, x: u32) -> Goal
-    requires { ⌜ Rows (now rows) (side .spans) × LateIn (side .runs) (now late) (side .blocks) ⌝ }
+fn goal_of(side: Side, rows: &[u8], late: &[u8], code: u32, x: u32, gap: Gap) -> Goal
+    requires { ⌜ Rows (now rows) (side .spans) × LateIn (side .runs) (now late) (side .blocks) × IsGap (now rows) (side .spans) gap ⌝ }
     ensures { λ r. ⌜ r ≡ goalIn side (now (rows .entry)) (now (late .entry)) code x ⌝ }
 {
     if side.compiled {
-        if is_gone(side, rows, late, code, x) {
+        if is_gone(side, rows, late, code, x, gap) {
             return Goal::LeftOut;
         }
         return Goal::To(x);
@@ -224,11 +271,12 @@ fn is_lost(
     numbers: &[u8],
     code: u32,
     entry: RelocationEntry,
+    gap: Gap,
 ) -> bool
-    requires { ⌜ Rows (now rows) (side .spans) × LateIn (side .runs) (now late) (side .blocks) × SymbolsRead side (now numbers) ⌝ }
+    requires { ⌜ Rows (now rows) (side .spans) × LateIn (side .runs) (now late) (side .blocks) × SymbolsRead side (now numbers) × IsGap (now rows) (side .spans) gap ⌝ }
     ensures { λ r. ⌜ r ≡ isLostEntry side (now (rows .entry)) (now (late .entry)) (now (numbers .entry)) code entry ⌝ }
 {
-    let goal = goal_of(side, rows, late, code, entry.r_offset);
+    let goal = goal_of(side, rows, late, code, entry.r_offset, gap);
     if is_left_out(goal) {
         return false;
     }
@@ -236,6 +284,13 @@ fn is_lost(
         return true;
     }
     !is_in_result(symbol_of(side, numbers, entry.r_info))
+}
+
+// The bytes of an entry, with an addend or with none.
+fn width_of(rela: bool) -> usize
+    ensures { λ r. ⌜ r ≡ widthOf (relocationLayout rela) ⌝ }
+{
+    if rela { 12 } else { 8 }
 }
 
 // Table t.
@@ -246,24 +301,70 @@ fn table_at(file: &[u8], side: Side, t: usize) -> EntryTable
     let order = side.order;
     let h = elf_readers::section_at(order, file, t);
     let code = symbols_taken::code_of(side.view, h.sh_info as usize);
-    let size = elf_relocations::entry_size(order, file, t);
+    let rela = h.sh_type == base_scope::SHT_RELA;
     EntryTable {
         index: t,
         code,
-        size,
+        at: h.sh_offset as usize,
+        rela,
+        size: width_of(rela),
     }
 }
 
+// Entry k of a table.
+fn entry_at(file: &[u8], order: ByteOrder, table: EntryTable, k: usize) -> RelocationEntry
+    requires { ⌜ Headed order (now file) × TableRead order (now file) table × (k < relocationCount order (now file) (table .index)) ⌝ }
+    ensures { λ r. ⌜ r ≡ relocation order (now (file .entry)) (table .index) k ⌝ }
+{
+    RelocationEntry::new(order, table.rela, file, table.at + table.size * k)
+}
+
+// Its offset alone.
+fn offset_at(file: &[u8], order: ByteOrder, table: EntryTable, k: usize) -> u32
+    requires { ⌜ Headed order (now file) × TableRead order (now file) table × (k < relocationCount order (now file) (table .index)) ⌝ }
+    ensures { λ r. ⌜ r ≡ relocation order (now (file .entry)) (table .index) k .«r_offset» ⌝ }
+{
+    base_fields::read32(order, file, table.at + table.size * k)
+}
+
+// A gap for entry k of a table: `gap`, or where that does not tell of it, the one from its offset on.
+fn gap_for(file: &[u8], side: Side, rows: &[u8], table: EntryTable, k: usize, gap: Gap) -> Gap
+    requires { ⌜ Headed (side .order) (now file) × TableRead (side .order) (now file) table × (k < relocationCount (side .order) (now file) (table .index))
+        × Rows (now rows) (side .spans) × IsGap (now rows) (side .spans) gap ⌝ }
+    ensures { λ r. ⌜ IsGap (now (rows .entry)) (side .spans) r ⌝ }
+{
+    if side.compiled {
+        if base_scope::leaves_out(table.code) {
+            let order = side.order;
+            let x = offset_at(file, order, table, k) as usize;
+            if is_in_gap(gap, x) {
+                return gap;
+            }
+            let n = side.spans;
+            return gap_from(rows, n, x);
+        }
+        return gap;
+    }
+    gap
+}
+
 // Whether entry k of a table is kept.
-fn is_kept(file: &[u8], side: Side, rows: &[u8], late: &[u8], table: EntryTable, k: usize) -> bool
+fn is_kept(
+    file: &[u8],
+    side: Side,
+    rows: &[u8],
+    late: &[u8],
+    table: EntryTable,
+    k: usize,
+    gap: Gap,
+) -> bool
     requires { ⌜ GoalsRead (now file) side (now rows) (now late) × TableRead (side .order) (now file) table
-        × (k < relocationCount (side .order) (now file) (table .index)) ⌝ }
+        × (k < relocationCount (side .order) (now file) (table .index)) × IsGap (now rows) (side .spans) gap ⌝ }
     ensures { λ r. ⌜ r ≡ isKeptIn (now (file .entry)) side (now (rows .entry)) (now (late .entry)) (table .index) k ⌝ }
 {
     let order = side.order;
-    let t = table.index;
-    let entry = elf_relocations::relocation_at(order, file, t, k);
-    !is_left_out(goal_of(side, rows, late, table.code, entry.r_offset))
+    let x = offset_at(file, order, table, k);
+    !is_left_out(goal_of(side, rows, late, table.code, x, gap))
 }
 
 // What an entry adds to the number of those that are kept.
@@ -273,7 +374,23 @@ fn one_if(kept: bool) -> usize
     if kept { 1 } else { 0 }
 }
 
-// How many entries of table t are kept.
+// Whether no entry for the section of a code can be left out: the object is A, or no word of the section is written anew.
+fn keeps_all(side: Side, code: u32) -> bool
+    ensures { λ r. ⌜ r ≡ keepsAll side code ⌝ }
+{
+    if side.compiled {
+        if base_scope::leaves_out(code) {
+            return false;
+        }
+        if base_scope::is_late_target(code) {
+            return !side.runs;
+        }
+        return true;
+    }
+    true
+}
+
+// How many entries of table t are kept: they are counted only where some can be left out.
 pub fn kept_count(file: &[u8], side: Side, rows: &[u8], late: &[u8], t: usize) -> usize
     requires { ⌜ GoalsRead (now file) side (now rows) (now late) × (t < sectionCount (side .order) (now file))
         × (isTable (side .order) (now file) t ≡ true) ⌝ }
@@ -282,10 +399,15 @@ pub fn kept_count(file: &[u8], side: Side, rows: &[u8], late: &[u8], t: usize) -
     let order = side.order;
     let table = table_at(file, side, t);
     let n = elf_relocations::relocation_count(order, file, t);
+    if keeps_all(side, table.code) {
+        return n;
+    }
+    let mut gap = no_gap();
     let mut kept: usize = 0;
     let mut k: usize = 0;
     while k < n {
-        kept += one_if(is_kept(file, side, rows, late, table, k));
+        gap = gap_for(file, side, rows, table, k, gap);
+        kept += one_if(is_kept(file, side, rows, late, table, k, gap));
         k += 1;
     }
     kept
@@ -302,19 +424,20 @@ fn write_entry(
     numbers: &[u8],
     table: EntryTable,
     k: usize,
+    gap: Gap,
 ) -> usize
     requires { ⌜ EntriesRead (now file) side (now rows) (now late) (now numbers) × TableRead (side .order) (now file) table
         × (k < relocationCount (side .order) (now file) (table .index))
-        × (at + length (broughtBytes (side .order) (now file) (carryingIn (now file) side (now rows) (now late) (now numbers)) (table .index) k) ≤ length (now out)) ⌝ }
+        × (at + length (broughtBytes (side .order) (now file) (carryingIn (now file) side (now rows) (now late) (now numbers)) (table .index) k) ≤ length (now out))
+        × IsGap (now rows) (side .spans) gap ⌝ }
     ensures { λ r. ⌜ (now (out .exit) ≡ spliced (now (out .entry)) at
         (broughtBytes (side .order) (now (file .entry)) (carryingIn (now (file .entry)) side (now (rows .entry)) (now (late .entry)) (now (numbers .entry))) (table .index) k))
         × (r ≡ at + length
         (broughtBytes (side .order) (now (file .entry)) (carryingIn (now (file .entry)) side (now (rows .entry)) (now (late .entry)) (now (numbers .entry))) (table .index) k)) ⌝ }
 {
     let order = side.order;
-    let t = table.index;
-    let entry = elf_relocations::relocation_at(order, file, t, k);
-    let goal = goal_of(side, rows, late, table.code, entry.r_offset);
+    let entry = entry_at(file, order, table, k);
+    let goal = goal_of(side, rows, late, table.code, entry.r_offset, gap);
     if is_left_out(goal) {
         return at;
     }
@@ -345,10 +468,12 @@ pub fn write_entries(
     let order = side.order;
     let table = table_at(file, side, t);
     let n = elf_relocations::relocation_count(order, file, t);
+    let mut gap = no_gap();
     let mut next = at;
     let mut k: usize = 0;
     while k < n {
-        next = write_entry(out, next, file, side, rows, late, numbers, table, k);
+        gap = gap_for(file, side, rows, table, k, gap);
+        next = write_entry(out, next, file, side, rows, late, numbers, table, k, gap);
         k += 1;
     }
     next
@@ -364,19 +489,19 @@ fn lower_loss(
     table: EntryTable,
     k: usize,
     best: usize,
+    gap: Gap,
 ) -> usize
     requires { ⌜ EntriesRead (now file) side (now rows) (now late) (now numbers) × TableRead (side .order) (now file) table
-        × (k < relocationCount (side .order) (now file) (table .index)) ⌝ }
+        × (k < relocationCount (side .order) (now file) (table .index)) × IsGap (now rows) (side .spans) gap ⌝ }
     ensures { λ r. ⌜ r ≡ cond
         (isLost (side .order) (now (file .entry)) (carryingIn (now (file .entry)) side (now (rows .entry)) (now (late .entry)) (now (numbers .entry))) (table .index) k)
         (min (relocation (side .order) (now (file .entry)) (table .index) k .«r_offset») best) best ⌝ }
 {
     let order = side.order;
-    let t = table.index;
-    let entry = elf_relocations::relocation_at(order, file, t, k);
+    let entry = entry_at(file, order, table, k);
     let x = entry.r_offset as usize;
     if x < best {
-        if is_lost(side, rows, late, numbers, table.code, entry) {
+        if is_lost(side, rows, late, numbers, table.code, entry, gap) {
             return x;
         }
         return best;
@@ -402,10 +527,12 @@ fn loss_in(
     let order = side.order;
     let table = table_at(file, side, t);
     let n = elf_relocations::relocation_count(order, file, t);
+    let mut gap = no_gap();
     let mut lowest = best;
     let mut k: usize = 0;
     while k < n {
-        lowest = lower_loss(file, side, rows, late, numbers, table, k, lowest);
+        gap = gap_for(file, side, rows, table, k, gap);
+        lowest = lower_loss(file, side, rows, late, numbers, table, k, lowest, gap);
         k += 1;
     }
     lowest

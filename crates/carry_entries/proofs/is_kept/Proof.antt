@@ -5,34 +5,34 @@ use Rattle.carry_entries.proofs.Goals.{kept-read}
 use Rattle.carry_entries.proofs.is_kept.Statement.{statement}
 use Rattle.carry_entries.proofs.is_kept.Tie as tie
 
-relocation-at-requires : tie.Need-relocation-at-requires
-relocation-at-requires c κs =
+offset-at-requires : tie.Need-offset-at-requires
+offset-at-requires c κs =
     let b = c .before .before .before in
-    (b .pre .0 .viewed .named .headed, record { table = b .pre .1 .below; kind = b .pre .1 .kind; entry = b .pre .2 })
+    (b .pre .0 .viewed .named .headed, b .pre .1, b .pre .2)
 
 goal-of-requires : tie.Need-goal-of-requires
 goal-of-requires c κs =
     let b = c .before .before .before .before in
-    (b .pre .0 .spans, b .pre .0 .moves)
+    (b .pre .0 .spans, b .pre .0 .moves, b .pre .3)
 
 is-left-out-requires : tie.Need-is-left-out-requires
 is-left-out-requires c κs = search needs
 
 returns : tie.Need-returns
 returns c =
-    let relocation-at = c .before .before .relocation-at in
+    let offset-at = c .before .before .offset-at in
     let goal-of = c .before .goal-of in
     let is-left-out = c .is-left-out in
     let b = c .before .before .before .before .before .before in
     let a = b .args in
-    kept-read (now (a .file)) (a .side) (now (a .rows)) (now (a .late)) (a .table) (a .k) (b .pre .1 .is) _ (relocation-at .ensures) _ (goal-of .ensures) _
+    kept-read (now (a .file)) (a .side) (now (a .rows)) (now (a .late)) (a .table) (a .k) (b .pre .1 .is) _ (offset-at .ensures) _ (goal-of .ensures) _
     (is-left-out .ensures)
 
 pub is-kept-spec : {M : Type 1} → statement M
 is-kept-spec =
     tie.close
     (tie.spec
-    relocation-at-requires
+    offset-at-requires
     goal-of-requires
     is-left-out-requires
     returns)

@@ -5,10 +5,10 @@ use Rattle.carry_entries.proofs.Entries.{loss-lower, loss-kept, loss-hi
 use Rattle.carry_entries.proofs.lower_loss.Statement.{statement}
 use Rattle.carry_entries.proofs.lower_loss.Tie as tie
 
-relocation-at-requires : tie.Need-relocation-at-requires
-relocation-at-requires c κs =
+entry-at-requires : tie.Need-entry-at-requires
+entry-at-requires c κs =
     let b = c .before .before .before .before in
-    (b .pre .0 .goals .viewed .named .headed, record { table = b .pre .1 .below; kind = b .pre .1 .kind; entry = b .pre .2 })
+    (b .pre .0 .goals .viewed .named .headed, b .pre .1, b .pre .2)
 
 cast-x : tie.Need-cast-x
 cast-x c = search needs
@@ -16,42 +16,42 @@ cast-x c = search needs
 is-lost-requires : tie.Need-is-lost-requires
 is-lost-requires c κs =
     let b = c .before .before .before .before .before .before .before in
-    (b .pre .0 .goals .spans, b .pre .0 .goals .moves, b .pre .0 .symbols)
+    (b .pre .0 .goals .spans, b .pre .0 .goals .moves, b .pre .0 .symbols, b .pre .3)
 
 returns : tie.Need-returns
 returns c =
-    let relocation-at = c .before .before .before .before .relocation-at in
+    let entry-at = c .before .before .before .before .entry-at in
     let if1 = c .before .before .if1 in
     let is-lost = c .before .is-lost in
     let if2 = c .if2 in
     let b = c .before .before .before .before .before .before .before .before .before in
     let a = b .args in
-    loss-lower (now (a .file)) (a .side) (now (a .rows)) (now (a .late)) (now (a .numbers)) (a .table) (b .pre .1 .is) (a .k) _ (relocation-at .ensures) (a .best) (if1 .taken)
+    loss-lower (now (a .file)) (a .side) (now (a .rows)) (now (a .late)) (now (a .numbers)) (a .table) (b .pre .1 .is) (a .k) _ (entry-at .ensures) (a .best) (if1 .taken)
     _ (is-lost .ensures) (if2 .taken)
 
 returns-2 : tie.Need-returns-2
 returns-2 c =
-    let relocation-at = c .before .before .before .before .relocation-at in
+    let entry-at = c .before .before .before .before .entry-at in
     let is-lost = c .before .is-lost in
     let if2 = c .if2 in
     let b = c .before .before .before .before .before .before .before .before .before in
     let a = b .args in
-    loss-kept (now (a .file)) (a .side) (now (a .rows)) (now (a .late)) (now (a .numbers)) (a .table) (b .pre .1 .is) (a .k) _ (relocation-at .ensures) (a .best) _
+    loss-kept (now (a .file)) (a .side) (now (a .rows)) (now (a .late)) (now (a .numbers)) (a .table) (b .pre .1 .is) (a .k) _ (entry-at .ensures) (a .best) _
     (is-lost .ensures) (if2 .left)
 
 returns-3 : tie.Need-returns-3
 returns-3 c =
-    let relocation-at = c .before .before .relocation-at in
+    let entry-at = c .before .before .entry-at in
     let if1 = c .if1 in
     let b = c .before .before .before .before .before .before .before in
     let a = b .args in
-    loss-high (now (a .file)) (a .side) (now (a .rows)) (now (a .late)) (now (a .numbers)) (a .table) (b .pre .1 .is) (a .k) _ (relocation-at .ensures) (a .best) (if1 .left)
+    loss-high (now (a .file)) (a .side) (now (a .rows)) (now (a .late)) (now (a .numbers)) (a .table) (b .pre .1 .is) (a .k) _ (entry-at .ensures) (a .best) (if1 .left)
 
 pub lower-loss-spec : {M : Type 1} → statement M
 lower-loss-spec =
     tie.close
     (tie.spec
-    relocation-at-requires
+    entry-at-requires
     cast-x
     is-lost-requires
     returns

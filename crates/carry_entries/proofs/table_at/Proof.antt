@@ -14,17 +14,20 @@ cast-code-of c = search needs
 code-of-requires : tie.Need-code-of-requires
 code-of-requires c κs = search needs
 
-entry-size-requires : tie.Need-entry-size-requires
-entry-size-requires c κs = search needs
+cast-t8 : tie.Need-cast-t8
+cast-t8 c = search needs
+
+width-of-requires : tie.Need-width-of-requires
+width-of-requires c κs = search needs
 
 returns : tie.Need-returns
 returns c =
-    let section-at = c .before .before .before .section-at in
-    let code-of = c .before .code-of in
-    let entry-size = c .entry-size in
-    let b = c .before .before .before .before .before in
+    let section-at = c .before .before .before .before .before .section-at in
+    let code-of = c .before .before .before .code-of in
+    let width-of = c .width-of in
+    let b = c .before .before .before .before .before .before .before in
     let a = b .args in
-    table-read (a .side .order) (now (a .file)) (a .t) (a .side .view) (b .pre .0 .is) _ (section-at .ensures) _ (code-of .ensures .0) _ (entry-size .ensures .0)
+    table-read (a .side .order) (now (a .file)) (a .t) (a .side .view) (b .pre .0 .is) _ (section-at .ensures) _ (code-of .ensures .0) _ (width-of .ensures)
 
 pub table-at-spec : {M : Type 1} → statement M
 table-at-spec =
@@ -33,5 +36,6 @@ table-at-spec =
     section-at-requires
     cast-code-of
     code-of-requires
-    entry-size-requires
+    cast-t8
+    width-of-requires
     returns)
