@@ -34,7 +34,7 @@ use Rattle.elf_relocations.specs.Relocations.{isRela, entrySize}
 use Rattle.elf_symbols.specs.Symbols.{symtab}
 use Rattle.statics_table.specs.Statics.{nameHead}
 use Rattle.merge_buffers.specs.Buffers.{SPANS_AT}
-use Rattle.merge_buffers.proofs.Parts.{kept-same, kept-then}
+use Rattle.base_buffers.proofs.Parts.{kept-same, kept-then}
 use Rattle.merge_kept.specs.Kept.{kept}
 use Rattle.merge_kept.proofs.Kept.{kept-le, other-stays, stays-kept}
 use Rattle.carry_homes.specs.Homes.{carriedCount, carriedTable, newCount, openedBy}

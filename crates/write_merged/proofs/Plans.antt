@@ -4,8 +4,10 @@ use mathlib.Core.Path.{_≡_, refl, sym, ap, _∙_}
 use mathlib.Core.Bool.{Bool, true, false}
 use mathlib.Core.List.{List}
 use native.Mathlib.Omega.{arith}
-use lib.ListN.{length, take, drop}
+use lib.ListN.{length, getD, set, take, drop, length-set}
+use lib.Seq.{getD-set-same, getD-set-other}
 use lib.Dec.{ltb}
+use borrow.Author.Count.{below-more}
 use borrow.Author.Tests.{lt-ltb, le-ltb}
 use Rattle.base_lists.specs.Ranges.{first}
 use Rattle.base_lists.specs.Windows.{spliced}
@@ -31,7 +33,7 @@ use Rattle.write_object.proofs.Steps.{gap-keeps, copied-there, section-put}
 use Rattle.write_object.proofs.Content.{none-fails, length-object}
 use Rattle.write_object.proofs.Words.{end-mono}
 use Rattle.write_planned.specs.Held.{SpansOver}
-use Rattle.write_merged.specs.Merged.{planEnd, MergedStep}
+use Rattle.write_merged.specs.Merged.{planEnd, Sized, MergedStep}
 
 -- a section without a place is no debug section
 unplaced-debug : (h : SectionHeader) → hasPlace h ≡ false → h .«sh_type» ≡ SHT_MIPS_DEBUG → ⊥
@@ -42,6 +44,24 @@ unplaced-debug h f e = both (rw e) f
 pub debug-placed : (h : SectionHeader) → h .«sh_type» ≡ SHT_MIPS_DEBUG → hasPlace h ≡ true
 unfolding hasPlace
 debug-placed h e = rw e
+
+-- ---- the sizes noted
+
+module _ (p : Plan) where
+  pub sized-none : (sizes : List ℕ) → Sized p 0 sizes
+  sized-none sizes = record { long = omega arith; each = λ i h. absurd (omega (arith, h)) }
+
+  pub sized-all : (n : ℕ) (sizes : List ℕ) → n ≡ p .many → Sized p n sizes → Sized p (p .many) sizes
+  sized-all n sizes e s = record { long = omega (arith, e, s .long); each = λ i h. s .each i (omega (arith, h, e)) }
+
+  pub sized-more : (i n : ℕ) (sizes : List ℕ) → i < length sizes → n ≡ length (p .content i) → Sized p i sizes → Sized p (i + 1) (set sizes i n)
+  sized-more i n sizes l e s =
+      let k : length (set sizes i n) ≡ length sizes = length-set sizes i n in
+      let before : (j : ℕ) → j < i → getD (set sizes i n) j 0 ≡ length (p .content j) = λ j h. getD-set-other sizes i j n 0 (λ z. omega (arith, h, z)) ∙ s .each j h in
+      record {
+        long = omega (arith, k, l);
+        each = below-more (λ (j : ℕ). getD (set sizes i n) j 0 ≡ length (p .content j)) i before (getD-set-same sizes i n 0 l ∙ e);
+      }
 
 module _ (p : Plan) (o : ByteOrder) where
   pub plan-first : HEADER_END ≡ planEnd p 0

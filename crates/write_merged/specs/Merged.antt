@@ -1,9 +1,9 @@
 -- The answer of a merge that has come to writing: refusal 17 of a debug section that cannot move, then the merged object (crate write_plan, specs/Plan.antt), or refusal 21.
-use Prim.Native.Nat.{ℕ, _+_, _<_}
+use Prim.Native.Nat.{ℕ, _+_, _≤_, _<_}
 use mathlib.Core.Path.{_≡_}
 use mathlib.Core.Bool.{Bool, true, cond}
 use mathlib.Core.List.{List}
-use lib.ListN.{length}
+use lib.ListN.{length, getD}
 use Rattle.base_lists.specs.Windows.{spliced}
 use Rattle.base_fields.specs.declared.ByteOrder.{ByteOrder}
 use Rattle.base_scope.specs.Elf.{SHT_RELA, SHT_REL}
@@ -18,7 +18,6 @@ use Rattle.write_object.specs.Object.{Plan, layoutOf, movedFinding}
 use Rattle.write_plan.specs.Plan.{mergedPlan, mergedObject}
 use Rattle.write_planned.specs.declared.Writing.{Writing}
 use Rattle.write_planned.specs.Held.{heldPlaces, PlanHeld, SpansOver, heldPlan}
-use Rattle.write_merged.specs.declared.Measured.{Measured}
 
 -- the answer, where the output has so much room
 unfoldable pub mergedAnswer : ByteOrder → List ℕ → List ℕ → List Place → List ℕ → List ℕ → ℕ → ℕ → ℕ → Answer
@@ -61,16 +60,20 @@ pub record MergedSection (C A B path : List ℕ) (x : Writing) (table places ste
   pub below : i < heldPlan C A B path x places .many
   pub from : end ≡ planEnd (heldPlan C A B path x places) i
 
--- the header of section i of a plan, and how many bytes it holds
-pub record MeasuredAs (p : Plan) (i : ℕ) (r : Measured) : Type 0 where
-  pub heading : r .heading ≡ p .heading i
-  pub size : r .size ≡ length (p .content i)
+-- the first n sections of a plan measured: how many bytes each holds stands at its index
+pub record Sized (p : Plan) (n : ℕ) (sizes : List ℕ) : Type 0 where
+  pub long : n ≤ length sizes
+  pub each : (i : ℕ) → i < n → getD sizes i 0 ≡ length (p .content i)
 
 -- a step of a pass over the sections wrote b at `at`, and the next section comes behind r
 pub record MergedStep (p : Plan) (i : ℕ) (b : List ℕ) (at r : ℕ) (before after index indexAfter : List ℕ) : Type 0 where
   pub next : r ≡ planEnd p (i + 1)
   pub bytes : after ≡ spliced before at b
   pub spans : SpansOver index indexAfter
+
+-- all sections of the plan in hand measured
+abbrev pub heldSized : List ℕ → List ℕ → List ℕ → List ℕ → Writing → List ℕ → List ℕ → Type 0
+heldSized C A B path x places sizes = Sized (heldPlan C A B path x places) (heldPlan C A B path x places .many) sizes
 
 -- the answer of the plan in hand
 abbrev pub heldAnswer : List ℕ → List ℕ → List ℕ → List ℕ → Writing → List ℕ → ℕ → Answer

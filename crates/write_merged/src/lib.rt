@@ -3,7 +3,7 @@
 ghost use mathlib.Core.Path.{_≡_};
 ghost use mathlib.Core.Bool.{true, false};
 ghost use Prim.Native.Nat.{_+_, _*_, _≤_, _<_};
-ghost use lib.ListN.{length};
+ghost use lib.ListN.{length, getD};
 ghost use Rattle.base_lists.specs.Windows.{spliced};
 ghost use Rattle.base_scope.specs.Codes.{LINES};
 ghost use Rattle.base_scope.specs.declared.Finding.the-variants.{Clear};
@@ -17,7 +17,7 @@ ghost use Rattle.write_image.specs.Layout.{HEADER_END, HEADING_SIZE, alignedTo,
 ghost use Rattle.write_object.specs.Object.{hasPlace, layoutOf, writtenHeading, failsToMove, movedFinding};
 ghost use Rattle.write_object.specs.Steps.{placedPiece, piecesOf, headingsOf};
 ghost use Rattle.write_planned.specs.Held.{SpansOver, heldPlan};
-ghost use Rattle.write_merged.specs.Merged.{openedAs, openedWith, planEnd, MergedReady, MergedSection, MeasuredAs, MergedStep, heldAnswer, heldObject};
+ghost use Rattle.write_merged.specs.Merged.{openedAs, openedWith, planEnd, MergedReady, MergedSection, MergedStep, heldAnswer, heldObject, heldSized};
 use base_answers::Outcome;
 use base_scope::Finding;
 use carry_homes::TableName;
@@ -27,11 +27,8 @@ use write_planned::Writing;
 // How long the table of homes is.
 const HOME_TABLE: usize = 1024;
 
-// The header of a section, and how many bytes it holds.
-pub struct Measured {
-    pub heading: SectionHeader,
-    pub size: usize,
-}
+// How many sizes are noted: more than an object has sections.
+const SIZES: usize = 256;
 
 // How many sections the merged object has.
 fn section_total(x: Writing) -> usize
@@ -94,7 +91,7 @@ fn opened_key(
     let stage = x.stage;
     let inputs = stage.inputs;
     let order = inputs.order;
-    let homes = merge_buffers::part(places, carry_stage::HOMES_AT, HOME_TABLE);
+    let homes = base_buffers::part(places, carry_stage::HOMES_AT, HOME_TABLE);
     let j = carry_homes::opened_by(homes, n, carry.stay, i);
     carry_homes::home_name(order, assembled, inputs.assembled, homes, j)
 }
@@ -194,7 +191,7 @@ fn heading_at<'a>(
     )
 }
 
-// The header and the size of section i.
+// How many bytes section i holds.
 fn measure_section<'a>(
     compiled: &'a [u8],
     assembled: &'a [u8],
@@ -206,13 +203,12 @@ fn measure_section<'a>(
     steps: &[u8],
     index: &mut [u8],
     i: usize,
-) -> Measured
+) -> u32
     requires { ⌜ MergedReady (now compiled) (now assembled) (now file) (now path) x (now table) (now places) (now steps) (now index) × (i <
         (heldPlan (now compiled) (now assembled) (now file) (now path) x (now places)) .many) ⌝ }
-    ensures { λ r. ⌜ MeasuredAs (heldPlan (now (compiled .entry)) (now (assembled .entry)) (now (file .entry)) (now (path .entry)) x (now (places .entry))) i r × SpansOver
-        (now (index .entry)) (now (index .exit)) ⌝ }
+    ensures { λ r. ⌜ (r ≡ length (heldPlan (now (compiled .entry)) (now (assembled .entry)) (now (file .entry)) (now (path .entry)) x (now (places .entry)) .content i)) × SpansOver (now (index .entry)) (now (index .exit)) ⌝ }
 {
-    let heading = heading_at(
+    write_planned::planned_size(
         compiled,
         assembled,
         file,
@@ -223,20 +219,51 @@ fn measure_section<'a>(
         steps,
         index,
         i,
-    );
-    let size = write_planned::planned_size(
-        compiled,
-        assembled,
-        file,
-        path,
-        x,
-        table,
-        places,
-        steps,
-        index,
-        i,
-    ) as usize;
-    Measured { heading, size }
+    ) as u32
+}
+
+// The size noted of section i.
+fn size_at(sizes: &[u32], i: usize) -> u32
+    requires { ⌜ (i < length (now sizes)) × (i < 256) ⌝ }
+    ensures { λ r. ⌜ r ≡ getD (now (sizes .entry)) i 0 ⌝ }
+{
+    sizes[i]
+}
+
+// Notes how many bytes each section holds: a section is measured once, and all that follows reads its size.
+fn measure_sections<'a>(
+    compiled: &'a [u8],
+    assembled: &'a [u8],
+    file: &[u8],
+    path: &[u8],
+    x: Writing,
+    table: &[u8],
+    places: &[u8],
+    steps: &[u8],
+    index: &mut [u8],
+    sizes: &mut [u32],
+)
+    requires { ⌜ MergedReady (now compiled) (now assembled) (now file) (now path) x (now table) (now places) (now steps) (now index) × (256 ≤ length (now sizes)) ⌝ }
+    ensures { λ _. ⌜ heldSized (now (compiled .entry)) (now (assembled .entry)) (now (file .entry)) (now (path .entry)) x (now (places .entry)) (now (sizes .exit)) × SpansOver (now (index .entry)) (now (index .exit)) ⌝ }
+{
+    let n = section_total(x);
+    let mut i: usize = 0;
+    while i < n {
+        let size = measure_section(
+            compiled,
+            assembled,
+            file,
+            path,
+            x,
+            table,
+            places,
+            steps,
+            index,
+            i,
+        );
+        sizes[i] = size;
+        i += 1;
+    }
 }
 
 // Where the sections up to section i end.
@@ -250,14 +277,16 @@ fn merged_after<'a>(
     places: &[u8],
     steps: &[u8],
     index: &mut [u8],
+    sizes: &[u32],
     i: usize,
     end: usize,
 ) -> usize
-    requires { ⌜ MergedSection (now compiled) (now assembled) (now file) (now path) x (now table) (now places) (now steps) (now index) i end ⌝ }
+    requires { ⌜ MergedSection (now compiled) (now assembled) (now file) (now path) x (now table) (now places) (now steps) (now index) i end
+        × heldSized (now compiled) (now assembled) (now file) (now path) x (now places) (now sizes) ⌝ }
     ensures { λ r. ⌜ (r ≡ planEnd (heldPlan (now (compiled .entry)) (now (assembled .entry)) (now (file .entry)) (now (path .entry)) x (now (places .entry))) (i + 1))
         × SpansOver (now (index .entry)) (now (index .exit)) ⌝ }
 {
-    let m = measure_section(
+    let h = heading_at(
         compiled,
         assembled,
         file,
@@ -269,10 +298,9 @@ fn merged_after<'a>(
         index,
         i,
     );
-    let h = m.heading;
     if write_object::has_place(h) {
         let start = write_image::aligned_to(end, h.sh_addralign as usize);
-        return start + m.size;
+        return start + size_at(sizes, i) as usize;
     }
     end
 }
@@ -288,8 +316,10 @@ fn merged_end<'a>(
     places: &[u8],
     steps: &[u8],
     index: &mut [u8],
+    sizes: &[u32],
 ) -> usize
-    requires { ⌜ MergedReady (now compiled) (now assembled) (now file) (now path) x (now table) (now places) (now steps) (now index) ⌝ }
+    requires { ⌜ MergedReady (now compiled) (now assembled) (now file) (now path) x (now table) (now places) (now steps) (now index)
+        × heldSized (now compiled) (now assembled) (now file) (now path) x (now places) (now sizes) ⌝ }
     ensures { λ r. ⌜ (r ≡ planEnd
         (heldPlan (now (compiled .entry)) (now (assembled .entry)) (now (file .entry)) (now (path .entry)) x (now (places .entry)))
         ((heldPlan (now (compiled .entry)) (now (assembled .entry)) (now (file .entry)) (now (path .entry)) x (now (places .entry))) .many))
@@ -309,6 +339,7 @@ fn merged_end<'a>(
             places,
             steps,
             index,
+            sizes,
             i,
             end,
         );
@@ -369,8 +400,10 @@ fn moved_fault<'a>(
     places: &[u8],
     steps: &[u8],
     index: &mut [u8],
+    sizes: &[u32],
 ) -> Finding
-    requires { ⌜ MergedReady (now compiled) (now assembled) (now file) (now path) x (now table) (now places) (now steps) (now index) ⌝ }
+    requires { ⌜ MergedReady (now compiled) (now assembled) (now file) (now path) x (now table) (now places) (now steps) (now index)
+        × heldSized (now compiled) (now assembled) (now file) (now path) x (now places) (now sizes) ⌝ }
     ensures { λ r. ⌜ (r ≡ movedFinding (heldPlan (now (compiled .entry)) (now (assembled .entry)) (now (file .entry)) (now (path .entry)) x (now (places .entry)))
         (x .stage .inputs .order)) × SpansOver (now (index .entry)) (now (index .exit)) ⌝ }
 {
@@ -403,6 +436,7 @@ fn moved_fault<'a>(
             places,
             steps,
             index,
+            sizes,
             i,
             end,
         );
@@ -579,16 +613,18 @@ fn write_merged_heading<'a>(
     places: &[u8],
     steps: &[u8],
     index: &mut [u8],
+    sizes: &[u32],
     i: usize,
     end: usize,
 ) -> usize
-    requires { ⌜ MergedSection (now compiled) (now assembled) (now file) (now path) x (now table) (now places) (now steps) (now index) i end × (at + 40 ≤ length (now out)) ⌝ }
+    requires { ⌜ MergedSection (now compiled) (now assembled) (now file) (now path) x (now table) (now places) (now steps) (now index) i end
+        × heldSized (now compiled) (now assembled) (now file) (now path) x (now places) (now sizes) × (at + 40 ≤ length (now out)) ⌝ }
     ensures { λ r. ⌜ MergedStep (heldPlan (now (compiled .entry)) (now (assembled .entry)) (now (file .entry)) (now (path .entry)) x (now (places .entry))) i (sectionBytes
         (x .stage .inputs .order) (writtenHeading
         (heldPlan (now (compiled .entry)) (now (assembled .entry)) (now (file .entry)) (now (path .entry)) x (now (places .entry))) i)) at r
         (now (out .entry)) (now (out .exit)) (now (index .entry)) (now (index .exit)) ⌝ }
 {
-    let m = measure_section(
+    let h = heading_at(
         compiled,
         assembled,
         file,
@@ -603,12 +639,12 @@ fn write_merged_heading<'a>(
     let stage = x.stage;
     let inputs = stage.inputs;
     let order = inputs.order;
-    let h = m.heading;
-    let size = write_object::written_size(h, m.size as u32);
+    let long = size_at(sizes, i);
+    let size = write_object::written_size(h, long);
     if write_object::has_place(h) {
         let start = write_image::aligned_to(end, h.sh_addralign as usize);
         write_object::write_heading(out, at, order, h, start as u32, size);
-        return start + m.size;
+        return start + long as usize;
     }
     write_object::write_heading(out, at, order, h, h.sh_offset, size);
     end
@@ -627,8 +663,10 @@ fn write_merged_headings<'a>(
     places: &[u8],
     steps: &[u8],
     index: &mut [u8],
+    sizes: &[u32],
 )
-    requires { ⌜ MergedReady (now compiled) (now assembled) (now file) (now path) x (now table) (now places) (now steps) (now index) × (at + HEADING_SIZE *
+    requires { ⌜ MergedReady (now compiled) (now assembled) (now file) (now path) x (now table) (now places) (now steps) (now index)
+        × heldSized (now compiled) (now assembled) (now file) (now path) x (now places) (now sizes) × (at + HEADING_SIZE *
         (heldPlan (now compiled) (now assembled) (now file) (now path) x (now places)) .many ≤ length (now out)) ⌝ }
     ensures { λ _. ⌜ (now (out .exit) ≡ spliced (now (out .entry)) at (headingsOf
         (heldPlan (now (compiled .entry)) (now (assembled .entry)) (now (file .entry)) (now (path .entry)) x (now (places .entry)))
@@ -651,6 +689,7 @@ fn write_merged_headings<'a>(
             places,
             steps,
             index,
+            sizes,
             i,
             end,
         );
@@ -670,11 +709,13 @@ fn write_merged<'a>(
     places: &[u8],
     steps: &[u8],
     index: &mut [u8],
+    sizes: &[u32],
     end: usize,
     at: usize,
     many: usize,
 )
-    requires { ⌜ MergedReady (now compiled) (now assembled) (now file) (now path) x (now table) (now places) (now steps) (now index) × (movedFinding
+    requires { ⌜ MergedReady (now compiled) (now assembled) (now file) (now path) x (now table) (now places) (now steps) (now index)
+        × heldSized (now compiled) (now assembled) (now file) (now path) x (now places) (now sizes) × (movedFinding
         (heldPlan (now compiled) (now assembled) (now file) (now path) x (now places)) (x .stage .inputs .order) ≡ Clear) × (end ≡ planEnd
         (heldPlan (now compiled) (now assembled) (now file) (now path) x (now places)) ((heldPlan (now compiled) (now assembled) (now file) (now path) x (now places)) .many))
         × (at ≡ headingsAt (layoutOf (heldPlan (now compiled) (now assembled) (now file) (now path) x (now places)))) × (many ≡
@@ -713,6 +754,7 @@ fn write_merged<'a>(
         places,
         steps,
         index,
+        sizes,
     );
 }
 
@@ -728,8 +770,10 @@ fn place_merged<'a>(
     places: &[u8],
     steps: &[u8],
     index: &mut [u8],
+    sizes: &[u32],
 ) -> Outcome
-    requires { ⌜ MergedReady (now compiled) (now assembled) (now file) (now path) x (now table) (now places) (now steps) (now index) × (movedFinding
+    requires { ⌜ MergedReady (now compiled) (now assembled) (now file) (now path) x (now table) (now places) (now steps) (now index)
+        × heldSized (now compiled) (now assembled) (now file) (now path) x (now places) (now sizes) × (movedFinding
         (heldPlan (now compiled) (now assembled) (now file) (now path) x (now places)) (x .stage .inputs .order) ≡ Clear) ⌝ }
     ensures { λ r. ⌜ Answered (roomFor (heldObject (now (compiled .entry)) (now (assembled .entry)) (now (file .entry)) (now (path .entry)) x (now (places .entry))) (length
         (now (out .entry)))) r (now (out .entry)) (now (out .exit)) ⌝ }
@@ -745,6 +789,7 @@ fn place_merged<'a>(
         places,
         steps,
         index,
+        sizes,
     );
     let at = write_image::aligned_to(end, 4);
     let long = at + SectionHeader::SIZE * many;
@@ -760,6 +805,7 @@ fn place_merged<'a>(
             places,
             steps,
             index,
+            sizes,
             end,
             at,
             many,
@@ -786,6 +832,19 @@ pub fn merged_answer<'a>(
     ensures { λ r. ⌜ Answered (heldAnswer (now (compiled .entry)) (now (assembled .entry)) (now (file .entry)) (now (path .entry)) x (now (places .entry)) (length
         (now (out .entry)))) r (now (out .entry)) (now (out .exit)) ⌝ }
 {
+    let mut sizes = [0u32; SIZES];
+    measure_sections(
+        compiled,
+        assembled,
+        file,
+        path,
+        x,
+        table,
+        places,
+        steps,
+        index,
+        &mut sizes,
+    );
     match moved_fault(
         compiled,
         assembled,
@@ -796,6 +855,7 @@ pub fn merged_answer<'a>(
         places,
         steps,
         index,
+        &sizes,
     ) {
         Finding::Clear => place_merged(
             out,
@@ -808,6 +868,7 @@ pub fn merged_answer<'a>(
             places,
             steps,
             index,
+            &sizes,
         ),
         Finding::At(place) => base_answers::refusal(
             base_scope::STATICS,

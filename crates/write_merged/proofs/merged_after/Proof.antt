@@ -1,6 +1,6 @@
 -- A section with a place ends behind its bytes, one without a place moves no end. Assumes nothing.
 use Rattle.write_merged.proofs.Plans.{next-kept, next-sized}
-use Rattle.write_merged.proofs.Merged.{sum-fits, start-fits}
+use Rattle.write_merged.proofs.Merged.{held-many, sum-fits, start-fits, size-fits}
 use Rattle.write_planned.specs.Held.{heldPlan}
 use native.Mathlib.Omega.{arith}
 use mathlib.Core.Path.{sym, _∙_}
@@ -9,8 +9,8 @@ use borrow.Author.Needs.{needs}
 use Rattle.write_merged.proofs.merged_after.Statement.{statement}
 use Rattle.write_merged.proofs.merged_after.Tie as tie
 
-measure-section-requires : tie.Need-measure-section-requires
-measure-section-requires c κs = (c .before .before .before .before .before .before .before .before .before .pre .ready, c .before .before .before .before .before .before .before .before .before .pre .below)
+heading-at-requires : tie.Need-heading-at-requires
+heading-at-requires c κs = (c .before .before .before .before .before .before .before .before .before .before .pre .0 .ready, c .before .before .before .before .before .before .before .before .before .before .pre .0 .below)
 
 has-place-requires : tie.Need-has-place-requires
 has-place-requires c κs = search needs
@@ -21,16 +21,29 @@ cast-aligned-to c = search needs
 aligned-to-requires : tie.Need-aligned-to-requires
 aligned-to-requires c κs =
     let a = c .before .before .before .before .before .before .before .before .before .before .before .before .before .before .before .before .args in
-    let s = c .before .before .before .before .before .before .before .before .before .before .before .before .before .before .before .before .pre in
-    omega (arith, sum-fits (now (a .compiled)) (now (a .assembled)) (now (a .file)) (now (a .path)) (a .x) (now (a .table)) (now (a .places)) (now (a .steps)) (now (a .index)) (s .ready) (a .i) (a .end) (s .below) (s .from) _ (c .before .before .before .before .before .before .measure-section .ensures .0 .heading))
+    let s = c .before .before .before .before .before .before .before .before .before .before .before .before .before .before .before .before .pre .0 in
+    omega (arith, sum-fits (now (a .compiled)) (now (a .assembled)) (now (a .file)) (now (a .path)) (a .x) (now (a .table)) (now (a .places)) (now (a .steps)) (now (a .index)) (s .ready) (a .i) (a .end) (s .below) (s .from) _ (c .before .before .before .before .before .heading-at .ensures .0))
+
+size-at-requires : tie.Need-size-at-requires
+size-at-requires c κs =
+    let a = c .before .before .before .before .before .before .before .before .before .before .before .before .before .before .before .before .before .args in
+    let s = c .before .before .before .before .before .before .before .before .before .before .before .before .before .before .before .before .before .pre .0 in
+    let z = c .before .before .before .before .before .before .before .before .before .before .before .before .before .before .before .before .before .pre .1 .long in
+    (omega (arith, s .below, z), omega (arith, s .below, held-many (now (a .compiled)) (now (a .assembled)) (now (a .file)) (now (a .path)) (a .x) (now (a .table)) (now (a .places)) (now (a .steps)) (now (a .index)) (s .ready)))
+
+cast-result : tie.Need-cast-result
+cast-result c =
+    let a = c .before .before .before .before .before .before .before .before .before .before .before .before .before .before .before .before .before .before .args in
+    let s = c .before .before .before .before .before .before .before .before .before .before .before .before .before .before .before .before .before .before .pre .0 in
+    record { fits = omega (arith, size-fits (now (a .compiled)) (now (a .assembled)) (now (a .file)) (now (a .path)) (a .x) (now (a .table)) (now (a .places)) (now (a .steps)) (now (a .index)) (s .ready) (a .i) (s .below), c .size-at .ensures, c .before .before .before .before .before .before .before .before .before .before .before .before .before .before .before .before .before .before .pre .1 .each (a .i) (s .below)) }
 
 add-result : tie.Need-add-result
 add-result c =
     let a = c .before .before .before .before .before .before .before .before .before .before .before .before .before .before .before .before .before .before .args in
-    let s = c .before .before .before .before .before .before .before .before .before .before .before .before .before .before .before .before .before .before .pre in
-    let m = c .before .before .before .before .before .before .before .before .measure-section .ensures .0 in
+    let s = c .before .before .before .before .before .before .before .before .before .before .before .before .before .before .before .before .before .before .pre .0 in
+    let n = c .size-at .ensures ∙ c .before .before .before .before .before .before .before .before .before .before .before .before .before .before .before .before .before .before .pre .1 .each (a .i) (s .below) in
     let t = sym (c .before .before .before .before .has-place .ensures) ∙ c .before .before .before .if1 .taken in
-    omega (arith, start-fits (now (a .compiled)) (now (a .assembled)) (now (a .file)) (now (a .path)) (a .x) (now (a .table)) (now (a .places)) (now (a .steps)) (now (a .index)) (s .ready) (a .i) (a .end) (s .below) (s .from) _ (m .heading) t, m .size, c .before .aligned-to .ensures)
+    omega (arith, start-fits (now (a .compiled)) (now (a .assembled)) (now (a .file)) (now (a .path)) (a .x) (now (a .table)) (now (a .places)) (now (a .steps)) (now (a .index)) (s .ready) (a .i) (a .end) (s .below) (s .from) _ (c .before .before .before .before .before .before .before .heading-at .ensures .0) t, n, c .before .aligned-to .ensures)
 
 same-length : tie.Need-same-length
 same-length c = search needs
@@ -38,11 +51,11 @@ same-length c = search needs
 returns : tie.Need-returns
 returns c =
     let a = c .before .before .before .before .before .before .before .before .before .before .before .before .before .before .before .before .before .before .args in
-    let s = c .before .before .before .before .before .before .before .before .before .before .before .before .before .before .before .before .before .before .pre in
-    let m = c .before .before .before .before .before .before .before .before .measure-section .ensures .0 in
+    let s = c .before .before .before .before .before .before .before .before .before .before .before .before .before .before .before .before .before .before .pre .0 in
+    let n = c .size-at .ensures ∙ c .before .before .before .before .before .before .before .before .before .before .before .before .before .before .before .before .before .before .pre .1 .each (a .i) (s .below) in
     let t = sym (c .before .before .before .before .has-place .ensures) ∙ c .before .before .before .if1 .taken in
-    let e = next-sized (heldPlan (now (a .compiled)) (now (a .assembled)) (now (a .file)) (now (a .path)) (a .x) (now (a .places))) (a .x .stage .inputs .order) (a .i) (a .end) (s .from) _ (m .heading) _ (m .size) t in
-    (omega (arith, e, c .before .aligned-to .ensures), c .before .before .before .before .before .before .before .before .measure-section .ensures .1)
+    let e = next-sized (heldPlan (now (a .compiled)) (now (a .assembled)) (now (a .file)) (now (a .path)) (a .x) (now (a .places))) (a .x .stage .inputs .order) (a .i) (a .end) (s .from) _ (c .before .before .before .before .before .before .before .heading-at .ensures .0) _ n t in
+    (omega (arith, e, c .before .aligned-to .ensures), c .before .before .before .before .before .before .before .heading-at .ensures .1)
 
 same-length-2 : tie.Need-same-length-2
 same-length-2 c = search needs
@@ -50,17 +63,18 @@ same-length-2 c = search needs
 returns-2 : tie.Need-returns-2
 returns-2 c =
     let a = c .before .before .before .before .before .before .before .before .before .before .before .before .before .before .before .args in
-    let m = c .before .before .before .before .before .measure-section .ensures .0 in
-    (next-kept (heldPlan (now (a .compiled)) (now (a .assembled)) (now (a .file)) (now (a .path)) (a .x) (now (a .places))) (a .x .stage .inputs .order) (a .i) (a .end) (c .before .before .before .before .before .before .before .before .before .before .before .before .before .before .before .pre .from) _ (m .heading) (sym (c .before .has-place .ensures) ∙ c .if1 .left), c .before .before .before .before .before .measure-section .ensures .1)
+    (next-kept (heldPlan (now (a .compiled)) (now (a .assembled)) (now (a .file)) (now (a .path)) (a .x) (now (a .places))) (a .x .stage .inputs .order) (a .i) (a .end) (c .before .before .before .before .before .before .before .before .before .before .before .before .before .before .before .pre .0 .from) _ (c .before .before .before .before .heading-at .ensures .0) (sym (c .before .has-place .ensures) ∙ c .if1 .left), c .before .before .before .before .heading-at .ensures .1)
 
 pub merged-after-spec : {M : Type 1} → statement M
 merged-after-spec =
     tie.close
     (tie.spec
-    measure-section-requires
+    heading-at-requires
     has-place-requires
     cast-aligned-to
     aligned-to-requires
+    size-at-requires
+    cast-result
     add-result
     same-length
     returns

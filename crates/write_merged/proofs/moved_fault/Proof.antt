@@ -14,31 +14,31 @@ use Rattle.write_merged.proofs.moved_fault.Statement.{statement}
 use Rattle.write_merged.proofs.moved_fault.Tie as tie
 
 abbrev Inv-loop : tie.InvT-loop
-Inv-loop compiled assembled file path x table places steps index₀ n end₀ i₀ index end i =
+Inv-loop compiled assembled file path x table places steps index₀ sizes n end₀ i₀ index end i =
     (i ≤ n) × (end ≡ planEnd (heldPlan compiled assembled file path x places) i) × SpansOver index₀ index
     × (first (failsToMove (heldPlan compiled assembled file path x places) (x .stage .inputs .order)) 0 n
     ≡ first (failsToMove (heldPlan compiled assembled file path x places) (x .stage .inputs .order)) i n)
 
 abbrev μ-loop : tie.MeasureT-loop
-μ-loop compiled assembled file path x table places steps index₀ n end₀ i₀ index end i = n - i
+μ-loop compiled assembled file path x table places steps index₀ sizes n end₀ i₀ index end i = n - i
 
 section-total-requires : tie.Need-section-total-requires Inv-loop μ-loop
 section-total-requires c κs =
-    let a = c .before .before .before .before .before .before .before .before .args in
-    total-few (now (a .compiled)) (now (a .assembled)) (now (a .file)) (now (a .path)) (a .x) (now (a .table)) (now (a .places)) (now (a .steps)) (now (a .index)) (c .before .before .before .before .before .before .before .before .pre)
+    let a = c .before .before .before .before .before .before .before .before .before .args in
+    total-few (now (a .compiled)) (now (a .assembled)) (now (a .file)) (now (a .path)) (a .x) (now (a .table)) (now (a .places)) (now (a .steps)) (now (a .index)) (c .before .before .before .before .before .before .before .before .before .pre .0)
 
 loop-holds : tie.Need-loop-holds Inv-loop μ-loop
 loop-holds c =
-    let a = c .before .before .before .before .before .before .before .before .before .args in
+    let a = c .before .before .before .before .before .before .before .before .before .before .args in
     (omega arith, plan-first (heldPlan (now (a .compiled)) (now (a .assembled)) (now (a .file)) (now (a .path)) (a .x) (now (a .places))) (a .x .stage .inputs .order), spans-same (now (a .index)), refl)
 
 merged-fails-requires : tie.Need-merged-fails-requires Inv-loop μ-loop
 merged-fails-requires c κs =
-    let a = c .before .before .before .before .before .before .before .before .before .before .before .before .args in
+    let a = c .before .before .before .before .before .before .before .before .before .before .before .before .before .args in
     let l = c .before .before .loop in
     record {
-      ready = ready-still (now (a .compiled)) (now (a .assembled)) (now (a .file)) (now (a .path)) (a .x) (now (a .table)) (now (a .places)) (now (a .steps)) (now (a .index)) (c .before .before .before .before .before .before .before .before .before .before .before .before .pre) (l .index) (l .inv .2);
-      below = omega (arith, c .before .loop-test .taken, c .before .before .before .section-total .ensures, total-is (now (a .compiled)) (now (a .assembled)) (now (a .file)) (now (a .path)) (a .x) (now (a .table)) (now (a .places)) (now (a .steps)) (now (a .index)) (c .before .before .before .before .before .before .before .before .before .before .before .before .pre));
+      ready = ready-still (now (a .compiled)) (now (a .assembled)) (now (a .file)) (now (a .path)) (a .x) (now (a .table)) (now (a .places)) (now (a .steps)) (now (a .index)) (c .before .before .before .before .before .before .before .before .before .before .before .before .before .pre .0) (l .index) (l .inv .2);
+      below = omega (arith, c .before .loop-test .taken, c .before .before .before .section-total .ensures, total-is (now (a .compiled)) (now (a .assembled)) (now (a .file)) (now (a .path)) (a .x) (now (a .table)) (now (a .places)) (now (a .steps)) (now (a .index)) (c .before .before .before .before .before .before .before .before .before .before .before .before .before .pre .0));
       from = l .inv .1;
     }
 
@@ -47,22 +47,24 @@ same-length c = search needs
 
 returns : tie.Need-returns Inv-loop μ-loop
 returns c =
-    let a = c .before .before .before .before .before .before .before .before .before .before .before .before .before .before .before .before .args in
+    let a = c .before .before .before .before .before .before .before .before .before .before .before .before .before .before .before .before .before .args in
     let l = c .before .before .before .before .before .before .loop in
-    let n = c .before .before .before .before .before .before .before .section-total .ensures ∙ total-is (now (a .compiled)) (now (a .assembled)) (now (a .file)) (now (a .path)) (a .x) (now (a .table)) (now (a .places)) (now (a .steps)) (now (a .index)) (c .before .before .before .before .before .before .before .before .before .before .before .before .before .before .before .before .pre) in (
+    let n = c .before .before .before .before .before .before .before .section-total .ensures ∙ total-is (now (a .compiled)) (now (a .assembled)) (now (a .file)) (now (a .path)) (a .x) (now (a .table)) (now (a .places)) (now (a .steps)) (now (a .index)) (c .before .before .before .before .before .before .before .before .before .before .before .before .before .before .before .before .before .pre .0) in (
       fault-here (heldPlan (now (a .compiled)) (now (a .assembled)) (now (a .file)) (now (a .path)) (a .x) (now (a .places))) (a .x .stage .inputs .order) (l .i) _ n (l .inv .3) (c .before .before .before .before .before .loop-test .taken) (sym (c .before .before .before .merged-fails .ensures .0) ∙ c .if1 .taken),
       spans-then _ _ _ (l .inv .2) (c .before .before .before .merged-fails .ensures .1),
     )
 
 merged-after-requires : tie.Need-merged-after-requires Inv-loop μ-loop
 merged-after-requires c κs =
-    let a = c .before .before .before .before .before .before .before .before .before .before .before .before .before .before .before .before .before .args in
-    let l = c .before .before .before .before .before .before .before .loop in
-    record {
-      ready = ready-still (now (a .compiled)) (now (a .assembled)) (now (a .file)) (now (a .path)) (a .x) (now (a .table)) (now (a .places)) (now (a .steps)) (now (a .index)) (c .before .before .before .before .before .before .before .before .before .before .before .before .before .before .before .before .before .pre) _ (spans-then _ _ _ (l .inv .2) (c .before .before .before .before .merged-fails .ensures .1));
-      below = omega (arith, c .before .before .before .before .before .before .loop-test .taken, c .before .before .before .before .before .before .before .before .section-total .ensures, total-is (now (a .compiled)) (now (a .assembled)) (now (a .file)) (now (a .path)) (a .x) (now (a .table)) (now (a .places)) (now (a .steps)) (now (a .index)) (c .before .before .before .before .before .before .before .before .before .before .before .before .before .before .before .before .before .pre));
-      from = l .inv .1;
-    }
+    let a = c .before .before .before .before .before .before .before .before .before .before .before .before .before .before .before .before .before .before .args in
+    let l = c .before .before .before .before .before .before .before .loop in (
+      record {
+        ready = ready-still (now (a .compiled)) (now (a .assembled)) (now (a .file)) (now (a .path)) (a .x) (now (a .table)) (now (a .places)) (now (a .steps)) (now (a .index)) (c .before .before .before .before .before .before .before .before .before .before .before .before .before .before .before .before .before .before .pre .0) _ (spans-then _ _ _ (l .inv .2) (c .before .before .before .before .merged-fails .ensures .1));
+        below = omega (arith, c .before .before .before .before .before .before .loop-test .taken, c .before .before .before .before .before .before .before .before .section-total .ensures, total-is (now (a .compiled)) (now (a .assembled)) (now (a .file)) (now (a .path)) (a .x) (now (a .table)) (now (a .places)) (now (a .steps)) (now (a .index)) (c .before .before .before .before .before .before .before .before .before .before .before .before .before .before .before .before .before .before .pre .0));
+        from = l .inv .1;
+      },
+      c .before .before .before .before .before .before .before .before .before .before .before .before .before .before .before .before .before .before .pre .1,
+    )
 
 add-i : tie.Need-add-i Inv-loop μ-loop
 add-i c = search needs
@@ -72,9 +74,9 @@ loop-less c = search needs
 
 loop-again : tie.Need-loop-again Inv-loop μ-loop
 loop-again c =
-    let a = c .before .before .before .before .before .before .before .before .before .before .before .before .before .before .before .before .before .before .before .before .args in
+    let a = c .before .before .before .before .before .before .before .before .before .before .before .before .before .before .before .before .before .before .before .before .before .args in
     let l = c .before .before .before .before .before .before .before .before .before .before .loop in
-    let n = c .before .before .before .before .before .before .before .before .before .before .before .section-total .ensures ∙ total-is (now (a .compiled)) (now (a .assembled)) (now (a .file)) (now (a .path)) (a .x) (now (a .table)) (now (a .places)) (now (a .steps)) (now (a .index)) (c .before .before .before .before .before .before .before .before .before .before .before .before .before .before .before .before .before .before .before .before .pre) in (
+    let n = c .before .before .before .before .before .before .before .before .before .before .before .section-total .ensures ∙ total-is (now (a .compiled)) (now (a .assembled)) (now (a .file)) (now (a .path)) (a .x) (now (a .table)) (now (a .places)) (now (a .steps)) (now (a .index)) (c .before .before .before .before .before .before .before .before .before .before .before .before .before .before .before .before .before .before .before .before .before .pre .0) in (
       omega arith,
       c .before .before .merged-after .ensures .0,
       spans-then _ _ _ (spans-then _ _ _ (l .inv .2) (c .before .before .before .before .before .before .before .merged-fails .ensures .1)) (c .before .before .merged-after .ensures .1),
@@ -86,9 +88,9 @@ same-length-2 c = search needs
 
 returns-2 : tie.Need-returns-2 Inv-loop μ-loop
 returns-2 c =
-    let a = c .before .before .before .before .before .before .before .before .before .before .before .args in
+    let a = c .before .before .before .before .before .before .before .before .before .before .before .before .args in
     let l = c .before .loop in
-    let n = c .before .before .section-total .ensures ∙ total-is (now (a .compiled)) (now (a .assembled)) (now (a .file)) (now (a .path)) (a .x) (now (a .table)) (now (a .places)) (now (a .steps)) (now (a .index)) (c .before .before .before .before .before .before .before .before .before .before .before .pre) in
+    let n = c .before .before .section-total .ensures ∙ total-is (now (a .compiled)) (now (a .assembled)) (now (a .file)) (now (a .path)) (a .x) (now (a .table)) (now (a .places)) (now (a .steps)) (now (a .index)) (c .before .before .before .before .before .before .before .before .before .before .before .before .pre .0) in
     (fault-none (heldPlan (now (a .compiled)) (now (a .assembled)) (now (a .file)) (now (a .path)) (a .x) (now (a .places))) (a .x .stage .inputs .order) (l .i) _ n (l .inv .3) (omega (arith, c .loop-test .left)), l .inv .2)
 
 pub moved-fault-spec : {M : Type 1} → statement M

@@ -1,6 +1,6 @@
 -- The header states where its section was placed, or its own offset, and what it holds, or its own size. Assumes nothing.
 use Rattle.write_merged.proofs.Plans.{heading-step, heading-still}
-use Rattle.write_merged.proofs.Merged.{sum-fits, start-fits, size-fits}
+use Rattle.write_merged.proofs.Merged.{held-many, sum-fits, start-fits, size-fits}
 use Rattle.write_planned.specs.Held.{heldPlan}
 use native.Mathlib.Omega.{arith}
 use mathlib.Core.Path.{sym, _∙_}
@@ -9,14 +9,15 @@ use borrow.Author.Needs.{needs}
 use Rattle.write_merged.proofs.write_merged_heading.Statement.{statement}
 use Rattle.write_merged.proofs.write_merged_heading.Tie as tie
 
-measure-section-requires : tie.Need-measure-section-requires
-measure-section-requires c κs = (c .before .before .before .before .before .before .before .before .before .before .pre .0 .ready, c .before .before .before .before .before .before .before .before .before .before .pre .0 .below)
+heading-at-requires : tie.Need-heading-at-requires
+heading-at-requires c κs = (c .before .before .before .before .before .before .before .before .before .before .before .pre .0 .ready, c .before .before .before .before .before .before .before .before .before .before .before .pre .0 .below)
 
-cast-written-size : tie.Need-cast-written-size
-cast-written-size c =
-    let a = c .before .before .before .before .before .before .before .before .before .before .before .before .before .before .before .before .before .args in
-    let s = c .before .before .before .before .before .before .before .before .before .before .before .before .before .before .before .before .before .pre .0 in
-    record { fits = omega (arith, size-fits (now (a .compiled)) (now (a .assembled)) (now (a .file)) (now (a .path)) (a .x) (now (a .table)) (now (a .places)) (now (a .steps)) (now (a .index)) (s .ready) (a .i) (s .below), c .before .before .before .before .before .before .measure-section .ensures .0 .size) }
+size-at-requires : tie.Need-size-at-requires
+size-at-requires c κs =
+    let a = c .before .before .before .before .before .before .before .before .before .before .before .before .before .before .before .before .args in
+    let s = c .before .before .before .before .before .before .before .before .before .before .before .before .before .before .before .before .pre .0 in
+    let z = c .before .before .before .before .before .before .before .before .before .before .before .before .before .before .before .before .pre .1 .long in
+    (omega (arith, s .below, z), omega (arith, s .below, held-many (now (a .compiled)) (now (a .assembled)) (now (a .file)) (now (a .path)) (a .x) (now (a .table)) (now (a .places)) (now (a .steps)) (now (a .index)) (s .ready)))
 
 written-size-requires : tie.Need-written-size-requires
 written-size-requires c κs = search needs
@@ -31,26 +32,31 @@ aligned-to-requires : tie.Need-aligned-to-requires
 aligned-to-requires c κs =
     let a = c .before .before .before .before .before .before .before .before .before .before .before .before .before .before .before .before .before .before .before .before .before .args in
     let s = c .before .before .before .before .before .before .before .before .before .before .before .before .before .before .before .before .before .before .before .before .before .pre .0 in
-    omega (arith, sum-fits (now (a .compiled)) (now (a .assembled)) (now (a .file)) (now (a .path)) (a .x) (now (a .table)) (now (a .places)) (now (a .steps)) (now (a .index)) (s .ready) (a .i) (a .end) (s .below) (s .from) _ (c .before .before .before .before .before .before .before .before .before .before .measure-section .ensures .0 .heading))
+    omega (arith, sum-fits (now (a .compiled)) (now (a .assembled)) (now (a .file)) (now (a .path)) (a .x) (now (a .table)) (now (a .places)) (now (a .steps)) (now (a .index)) (s .ready) (a .i) (a .end) (s .below) (s .from) _ (c .before .before .before .before .before .before .before .before .before .heading-at .ensures .0))
 
 cast-write-heading : tie.Need-cast-write-heading
 cast-write-heading c =
     let a = c .before .before .before .before .before .before .before .before .before .before .before .before .before .before .before .before .before .before .before .before .before .before .before .args in
     let s = c .before .before .before .before .before .before .before .before .before .before .before .before .before .before .before .before .before .before .before .before .before .before .before .pre .0 in
-    let m = c .before .before .before .before .before .before .before .before .before .before .before .before .measure-section .ensures .0 in
     let t = sym (c .before .before .before .before .has-place .ensures) ∙ c .before .before .before .if1 .taken in
-    record { fits = omega (arith, start-fits (now (a .compiled)) (now (a .assembled)) (now (a .file)) (now (a .path)) (a .x) (now (a .table)) (now (a .places)) (now (a .steps)) (now (a .index)) (s .ready) (a .i) (a .end) (s .below) (s .from) _ (m .heading) t, c .before .aligned-to .ensures) }
+    record { fits = omega (arith, start-fits (now (a .compiled)) (now (a .assembled)) (now (a .file)) (now (a .path)) (a .x) (now (a .table)) (now (a .places)) (now (a .steps)) (now (a .index)) (s .ready) (a .i) (a .end) (s .below) (s .from) _ (c .before .before .before .before .before .before .before .before .before .before .before .heading-at .ensures .0) t, c .before .aligned-to .ensures) }
 
 write-heading-requires : tie.Need-write-heading-requires
-write-heading-requires c κs = omega (arith, c .before .before .before .before .before .before .before .before .before .before .before .before .before .before .before .before .before .before .before .before .before .before .before .pre .1)
+write-heading-requires c κs = omega (arith, c .before .before .before .before .before .before .before .before .before .before .before .before .before .before .before .before .before .before .before .before .before .before .before .pre .2)
+
+cast-result : tie.Need-cast-result
+cast-result c =
+    let a = c .before .before .before .before .before .before .before .before .before .before .before .before .before .before .before .before .before .before .before .before .before .before .before .before .before .before .args in
+    let s = c .before .before .before .before .before .before .before .before .before .before .before .before .before .before .before .before .before .before .before .before .before .before .before .before .before .before .pre .0 in
+    record { fits = omega (arith, size-fits (now (a .compiled)) (now (a .assembled)) (now (a .file)) (now (a .path)) (a .x) (now (a .table)) (now (a .places)) (now (a .steps)) (now (a .index)) (s .ready) (a .i) (s .below), c .before .before .before .before .before .before .before .before .before .size-at .ensures, c .before .before .before .before .before .before .before .before .before .before .before .before .before .before .before .before .before .before .before .before .before .before .before .before .before .before .pre .1 .each (a .i) (s .below)) }
 
 add-result : tie.Need-add-result
 add-result c =
-    let a = c .before .before .before .before .before .before .before .before .before .before .before .before .before .before .before .before .before .before .before .before .before .before .before .before .before .before .before .args in
-    let s = c .before .before .before .before .before .before .before .before .before .before .before .before .before .before .before .before .before .before .before .before .before .before .before .before .before .before .before .pre .0 in
-    let m = c .before .before .before .before .before .before .before .before .before .before .before .before .before .before .before .before .measure-section .ensures .0 in
-    let t = sym (c .before .before .before .before .before .before .before .before .has-place .ensures) ∙ c .before .before .before .before .before .before .before .if1 .taken in
-    omega (arith, start-fits (now (a .compiled)) (now (a .assembled)) (now (a .file)) (now (a .path)) (a .x) (now (a .table)) (now (a .places)) (now (a .steps)) (now (a .index)) (s .ready) (a .i) (a .end) (s .below) (s .from) _ (m .heading) t, m .size, c .before .before .before .before .before .aligned-to .ensures)
+    let a = c .before .before .before .before .before .before .before .before .before .before .before .before .before .before .before .before .before .before .before .before .before .before .before .before .before .before .args in
+    let s = c .before .before .before .before .before .before .before .before .before .before .before .before .before .before .before .before .before .before .before .before .before .before .before .before .before .before .pre .0 in
+    let n = c .before .before .before .before .before .before .before .before .before .size-at .ensures ∙ c .before .before .before .before .before .before .before .before .before .before .before .before .before .before .before .before .before .before .before .before .before .before .before .before .before .before .pre .1 .each (a .i) (s .below) in
+    let t = sym (c .before .before .before .before .before .before .before .has-place .ensures) ∙ c .before .before .before .before .before .before .if1 .taken in
+    omega (arith, start-fits (now (a .compiled)) (now (a .assembled)) (now (a .file)) (now (a .path)) (a .x) (now (a .table)) (now (a .places)) (now (a .steps)) (now (a .index)) (s .ready) (a .i) (a .end) (s .below) (s .from) _ (c .before .before .before .before .before .before .before .before .before .before .before .before .before .before .heading-at .ensures .0) t, n, c .before .before .before .before .aligned-to .ensures)
 
 same-length : tie.Need-same-length
 same-length c = search needs
@@ -60,14 +66,14 @@ same-length-2 c = search needs
 
 returns : tie.Need-returns
 returns c =
-    let a = c .before .before .before .before .before .before .before .before .before .before .before .before .before .before .before .before .before .before .before .before .before .before .before .before .before .before .before .args in
-    let s = c .before .before .before .before .before .before .before .before .before .before .before .before .before .before .before .before .before .before .before .before .before .before .before .before .before .before .before .pre .0 in
-    let m = c .before .before .before .before .before .before .before .before .before .before .before .before .before .before .before .before .measure-section .ensures .0 in
-    let t = sym (c .before .before .before .before .before .before .before .before .has-place .ensures) ∙ c .before .before .before .before .before .before .before .if1 .taken in
-    heading-step (heldPlan (now (a .compiled)) (now (a .assembled)) (now (a .file)) (now (a .path)) (a .x) (now (a .places))) (a .x .stage .inputs .order) (a .i) (a .end) (s .from) _ (m .heading) _ (m .size) _ _ _ _ (a .at) _ _ (c .before .before .before .before .before .aligned-to .ensures) t (c .before .before .before .before .before .before .before .before .before .written-size .ensures) (c .before .before .before .write-heading .ensures) (c .before .before .before .before .before .before .before .before .before .before .before .before .before .before .before .before .measure-section .ensures .1)
+    let a = c .before .before .before .before .before .before .before .before .before .before .before .before .before .before .before .before .before .before .before .before .before .before .before .before .before .before .args in
+    let s = c .before .before .before .before .before .before .before .before .before .before .before .before .before .before .before .before .before .before .before .before .before .before .before .before .before .before .pre .0 in
+    let n = c .before .before .before .before .before .before .before .before .before .size-at .ensures ∙ c .before .before .before .before .before .before .before .before .before .before .before .before .before .before .before .before .before .before .before .before .before .before .before .before .before .before .pre .1 .each (a .i) (s .below) in
+    let t = sym (c .before .before .before .before .before .before .before .has-place .ensures) ∙ c .before .before .before .before .before .before .if1 .taken in
+    heading-step (heldPlan (now (a .compiled)) (now (a .assembled)) (now (a .file)) (now (a .path)) (a .x) (now (a .places))) (a .x .stage .inputs .order) (a .i) (a .end) (s .from) _ (c .before .before .before .before .before .before .before .before .before .before .before .before .before .before .heading-at .ensures .0) _ n _ _ _ _ (a .at) _ _ (c .before .before .before .before .aligned-to .ensures) t (c .before .before .before .before .before .before .before .before .written-size .ensures) (c .before .before .write-heading .ensures) (c .before .before .before .before .before .before .before .before .before .before .before .before .before .before .heading-at .ensures .1)
 
 write-heading-requires-2 : tie.Need-write-heading-requires-2
-write-heading-requires-2 c κs = omega (arith, c .before .before .before .before .before .before .before .before .before .before .before .before .before .before .before .before .before .before .before .before .before .pre .1)
+write-heading-requires-2 c κs = omega (arith, c .before .before .before .before .before .before .before .before .before .before .before .before .before .before .before .before .before .before .before .before .before .pre .2)
 
 same-length-3 : tie.Need-same-length-3
 same-length-3 c = search needs
@@ -79,22 +85,23 @@ returns-2 : tie.Need-returns-2
 returns-2 c =
     let a = c .before .before .before .before .before .before .before .before .before .before .before .before .before .before .before .before .before .before .before .before .before .before .before .before .args in
     let s = c .before .before .before .before .before .before .before .before .before .before .before .before .before .before .before .before .before .before .before .before .before .before .before .before .pre .0 in
-    let m = c .before .before .before .before .before .before .before .before .before .before .before .before .before .measure-section .ensures .0 in
+    let n = c .before .before .before .before .before .before .before .size-at .ensures ∙ c .before .before .before .before .before .before .before .before .before .before .before .before .before .before .before .before .before .before .before .before .before .before .before .before .pre .1 .each (a .i) (s .below) in
     let f = sym (c .before .before .before .before .before .has-place .ensures) ∙ c .before .before .before .before .if1 .left in
-    heading-still (heldPlan (now (a .compiled)) (now (a .assembled)) (now (a .file)) (now (a .path)) (a .x) (now (a .places))) (a .x .stage .inputs .order) (a .i) (a .end) (s .from) _ (m .heading) _ (m .size) _ _ _ _ (a .at) _ f (c .before .before .before .before .before .before .written-size .ensures) (c .before .before .write-heading2 .ensures) (c .before .before .before .before .before .before .before .before .before .before .before .before .before .measure-section .ensures .1)
+    heading-still (heldPlan (now (a .compiled)) (now (a .assembled)) (now (a .file)) (now (a .path)) (a .x) (now (a .places))) (a .x .stage .inputs .order) (a .i) (a .end) (s .from) _ (c .before .before .before .before .before .before .before .before .before .before .before .before .heading-at .ensures .0) _ n _ _ _ _ (a .at) _ f (c .before .before .before .before .before .before .written-size .ensures) (c .before .before .write-heading2 .ensures) (c .before .before .before .before .before .before .before .before .before .before .before .before .heading-at .ensures .1)
 
 pub write-merged-heading-spec : {M : Type 1} → statement M
 write-merged-heading-spec =
     tie.close
     (tie.spec
-    measure-section-requires
-    cast-written-size
+    heading-at-requires
+    size-at-requires
     written-size-requires
     has-place-requires
     cast-aligned-to
     aligned-to-requires
     cast-write-heading
     write-heading-requires
+    cast-result
     add-result
     same-length
     same-length-2
