@@ -1,10 +1,10 @@
--- A name that ends apart from a string is neither the string nor the string with more behind it. Assumes nothing.
+-- A name that ends apart from a string is not the string. Assumes nothing.
 use Prim.Native.Nat.{ℕ, _+_, _-_, _<_, _≤_}
-use mathlib.Core.Path.{_≡_, refl, sym, _∙_}
+use mathlib.Core.Path.{_≡_, refl, sym}
 use mathlib.Core.Bool.{Bool, true, false, not, _&&_}
-use mathlib.Core.List.{List, _++_}
+use mathlib.Core.List.{List}
 use native.Mathlib.Omega.{arith}
-use lib.ListN.{length, getD, length-append, List·getD-append}
+use lib.ListN.{length, getD}
 use lib.Dec.{eqb, leb, ltb}
 use borrow.Author.Tests.{lt-ltb, le-leb, lt-leb, eq-eqb, ltb-true}
 use Rattle.base_lists.specs.Strings.{same, nameAt}
@@ -39,11 +39,6 @@ module _ (t : List ℕ) (at : ℕ) (s : List ℕ) where
     differ : getD t (at + (length s - 1)) 0 ≡ getD s (length s - 1) 0 → ⊥
     unfolding endsApart
     differ e = both (and-parts (leb (at + length s) (length t)) _ (and-parts (ltb 0 (length s)) _ apart .1) .1) (rw (eq-eqb _ _ e))
-
-    pub apart-joined : (b : List ℕ) → same (nameAt t at) (s ++ b) ≡ false
-    apart-joined b =
-        name-is-apart t (s ++ b) at (length s - 1) (omega (arith, some, length-append s b))
-        (λ e. differ (e ∙ List·getD-append s b 0 (length s - 1) (omega (arith, some))))
 
     pub apart-name : same (nameAt t at) s ≡ false
     apart-name = name-is-apart t s at (length s - 1) (omega (arith, some)) differ

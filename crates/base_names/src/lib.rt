@@ -2,9 +2,10 @@
 // definition in the crate base_lists, specs/Strings.antt: comparisons are equations of lists, so a zero byte in a compared string is a byte
 // like any other.
 ghost use mathlib.Core.Path.{_≡_};
-ghost use mathlib.Core.Bool.{false};
+ghost use mathlib.Core.Bool.{false, not, _&&_};
 ghost use Prim.Native.Nat.{_+_, _≤_};
 ghost use lib.ListN.{length, drop};
+ghost use lib.Dec.{eqb};
 ghost use Rattle.base_lists.specs.Ranges.{pastLast};
 ghost use Rattle.base_lists.specs.Strings.{same, prefixed, zeroAt, nameEnd, nameAt, ascii};
 ghost use Rattle.base_names.specs.Ends.{endsApart};
@@ -167,35 +168,48 @@ pub fn has_prefix(s: &[u8], p: &[u8]) -> bool
     same_bytes(&s[0..n], p)
 }
 
-// Whether the name at `at` is a given byte string, byte by byte. It reads no further than the first byte that differs, so a long name costs
-// nothing where a short one is asked for.
+// Whether a part of a table is a given byte string and holds no zero byte.
+fn is_whole(part: &[u8], s: &[u8]) -> bool
+    ensures { λ r. ⌜ r ≡ (same (now (part .entry)) (now (s .entry)) && eqb (nameEnd (now (part .entry)) 0) (length (now (s .entry)))) ⌝ }
+{
+    if same_bytes(part, s) {
+        return end_of(part, 0) == s.len();
+    }
+    false
+}
+
+// Whether a byte other than zero stands at `at`.
+fn goes_on(t: &[u8], at: usize) -> bool
+    ensures { λ r. ⌜ r ≡ not (zeroAt (now (t .entry)) at) ⌝ }
+{
+    if at >= t.len() {
+        return false;
+    }
+    t[at] != 0
+}
+
+// Whether the name at `at` is a given byte string: the table has it there, without a zero byte and with one behind it. It reads no more than the string's bytes, so a
+// long name costs nothing where a short one is asked for.
 fn name_from(t: &[u8], at: usize, s: &[u8]) -> bool
     ensures { λ r. ⌜ r ≡ same (nameAt (now (t .entry)) at) (now (s .entry)) ⌝ }
 {
-    let mut i: usize = 0;
-    let mut j = at;
-    while i < s.len() {
-        if j >= t.len() {
-            return false;
-        }
-        if t[j] == 0 {
-            return false;
-        }
-        if t[j] != s[i] {
-            return false;
-        }
-        i += 1;
-        j += 1;
+    let n = s.len();
+    if at > t.len() {
+        return n == 0;
     }
-    if j >= t.len() {
-        return true;
+    if t.len() - at < n {
+        return false;
     }
-    t[j] == 0
+    let end = at + n;
+    if goes_on(t, end) {
+        return false;
+    }
+    is_whole(&t[at..end], s)
 }
 
 // Whether a table has another byte where the last one of a string would stand, were the string at `at`. The labels of an object begin alike and end apart, so this
 // is asked before they are compared.
-pub fn ends_apart(t: &[u8], at: usize, s: &[u8]) -> bool
+fn ends_apart(t: &[u8], at: usize, s: &[u8]) -> bool
     ensures { λ r. ⌜ r ≡ endsApart (now (t .entry)) at (now (s .entry)) ⌝ }
 {
     let n = s.len();

@@ -1,6 +1,6 @@
 // The lines of a block file: where they end, what their keys are and which value may stand behind each. Every function equals its definition in specs/.
 ghost use mathlib.Core.Path.{_≡_};
-ghost use mathlib.Core.Bool.{true, _&&_};
+ghost use mathlib.Core.Bool.{true, false, _&&_};
 ghost use Prim.Native.Nat.{_+_, _≤_, _<_};
 ghost use lib.ListN.{length, take, drop};
 ghost use Rattle.base_lists.specs.Strings.{prefixed};
@@ -20,11 +20,47 @@ pub const KEY_ASM: u32 = 8;
 
 pub const KEY_LATE: u32 = 9;
 
+// Whether one of the 16 bytes at `at` is an LF: where none is, the line at `at` ends where the line behind them does. All 16 are looked at, so that the compiler
+// compares them at once.
+fn has_feed(file: &[u8], at: usize) -> bool
+    requires { ⌜ at + 16 ≤ length (now file) ⌝ }
+    ensures { λ r. ⌜ (r ≡ false → lineEnd (now (file .entry)) at ≡ lineEnd (now (file .entry)) (at + 16)) ⌝ }
+{
+    let mut hit = false;
+    let mut i: usize = 0;
+    while i < 16 {
+        if file[at + i] == 10 {
+            hit = true;
+            i += 1;
+        } else {
+            i += 1;
+        }
+    }
+    hit
+}
+
+// The line at `at` passed over 16 bytes at a time, as long as no LF is among them: less than 16 bytes of it are left.
+fn near_feed(file: &[u8], at: usize) -> usize
+    ensures { λ r. ⌜ lineEnd (now (file .entry)) at ≡ lineEnd (now (file .entry)) r ⌝ }
+{
+    let mut i = at;
+    while i < file.len() {
+        if file.len() - i < 16 {
+            return i;
+        }
+        if has_feed(file, i) {
+            return i;
+        }
+        i += 16;
+    }
+    i
+}
+
 // Where the line at `at` ends: its LF, or the end of the file.
 pub fn line_end(file: &[u8], at: usize) -> usize
     ensures { λ r. ⌜ r ≡ lineEnd (now (file .entry)) at ⌝ }
 {
-    let mut i = at;
+    let mut i = near_feed(file, at);
     while i < file.len() {
         if file[i] == 10 {
             return i;
