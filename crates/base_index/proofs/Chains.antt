@@ -9,9 +9,9 @@ use lib.Dec.{eqb}
 use borrow.Author.Tests.{eqb-true, eqb-false}
 use Rattle.base_lists.specs.Ranges.{first}
 use Rattle.base_lists.proofs.Ranges.{by-test, by-lt, by-last, first-here, first-next, first-end, first-ext}
-use Rattle.base_index.specs.Index.{BUCKETS, bucketOf, nextPlace, headPlace, Room, hashIn, nextIn, headIn, inBucket, Built, Emptied, linked}
+use Rattle.base_index.specs.Index.{BUCKETS, bucketsOf, bucketOf, nextPlace, headPlace, Room, hashIn, nextIn, headIn, inBucket, Built, Emptied, linked}
 use Rattle.base_index.proofs.Table.{withWord, word-long, hash-before, next-same, next-other, next-not-head, head-same, head-other, head-not-next}
-use Rattle.base_index.proofs.Index.{in-bucket, not-in-bucket, bucket-same}
+use Rattle.base_index.proofs.Index.{bucket-low, in-bucket, not-in-bucket, bucket-same}
 
 pub room-same : (capacity : ℕ) (T U : List ℕ) → length U ≡ length T → Room capacity T → Room capacity U
 room-same capacity T U e r = record { few = r .few; long = rw e (r .long) }
@@ -40,26 +40,26 @@ empty-next capacity n i o T U X room l at e m =
 -- the items of n from j on are linked, by the hashes of T
 pub record Chained (capacity n j : ℕ) (T U : List ℕ) : Type 0 where
   pub kept : (k : ℕ) → k < capacity → hashIn U k ≡ hashIn T k
-  pub head : (b : ℕ) → b < BUCKETS → headIn capacity U b ≡ first (inBucket T b) j n
-  pub next : (k : ℕ) → j ≤ k → k < n → nextIn capacity U k ≡ first (inBucket T (bucketOf (hashIn T k))) (k + 1) n
+  pub head : (b : ℕ) → b < bucketsOf n → headIn capacity U b ≡ first (inBucket n T b) j n
+  pub next : (k : ℕ) → j ≤ k → k < n → nextIn capacity U k ≡ first (inBucket n T (bucketOf n (hashIn T k))) (k + 1) n
 
-pub chain-none : (capacity n : ℕ) (S T : List ℕ) → Emptied capacity n BUCKETS S T → Chained capacity n n T T
+pub chain-none : (capacity n : ℕ) (S T : List ℕ) → Emptied capacity n (bucketsOf n) S T → Chained capacity n n T T
 chain-none capacity n S T m = record {
   kept = λ k l. refl;
-  head = λ b l. m .head b l ∙ sym (first-end (inBucket T b) n n (omega arith));
+  head = λ b l. m .head b l ∙ sym (first-end (inBucket n T b) n n (omega arith));
   next = λ k l u. absurd (omega arith);
 }
 
 -- what `link` reads and writes, in its order: the hash, the head of its bucket, and the two words at their places
-pub link-is : (capacity j h x b o p : ℕ) (T A B : List ℕ) → h ≡ hashIn T j → x ≡ headIn capacity T (bucketOf h) → o ≡ nextPlace capacity j → A ≡ withWord T o x
-    → b ≡ bucketOf h → p ≡ headPlace capacity b → B ≡ withWord A p j → B ≡ linked capacity T j
+pub link-is : (capacity n j h x b o p : ℕ) (T A B : List ℕ) → h ≡ hashIn T j → x ≡ headIn capacity T (bucketOf n h) → o ≡ nextPlace capacity j → A ≡ withWord T o x
+    → b ≡ bucketOf n h → p ≡ headPlace capacity b → B ≡ withWord A p j → B ≡ linked capacity n T j
 unfolding linked
-link-is capacity j h x b o p T A B hash head place next bucket front done = rw (done, next, front, place, head, bucket, hash)
+link-is capacity n j h x b o p T A B hash head place next bucket front done = rw (done, next, front, place, head, bucket, hash)
 
 -- a turn: U is the table before it, X that with item j's next, Y that with the head of its bucket b
 module _ (capacity n j : ℕ) (T U : List ℕ) (room : Room capacity U) (l : j < n) (most : n ≤ capacity) (m : Chained capacity n (j + 1) T U) where
   abbrev b : ℕ
-  b = bucketOf (hashIn U j)
+  b = bucketOf n (hashIn U j)
 
   abbrev X : List ℕ
   X = withWord U (nextPlace capacity j) (headIn capacity U b)
@@ -67,11 +67,14 @@ module _ (capacity n j : ℕ) (T U : List ℕ) (room : Room capacity U) (l : j <
   abbrev Y : List ℕ
   Y = withWord X (headPlace capacity b) j
 
-  own : b ≡ bucketOf (hashIn T j)
-  own = ap bucketOf (m .kept j (omega arith))
+  own : b ≡ bucketOf n (hashIn T j)
+  own = ap (bucketOf n) (m .kept j (omega arith))
+
+  inside : b < bucketsOf n
+  inside = bucket-low n (hashIn U j)
 
   small : b < BUCKETS
-  small = omega arith
+  small = omega (arith, inside)
 
   fits : nextPlace capacity j + 4 ≤ length U
   fits = omega (arith, room .long)
@@ -85,39 +88,39 @@ module _ (capacity n j : ℕ) (T U : List ℕ) (room : Room capacity U) (l : j <
       ∙ hash-before capacity U (nextPlace capacity j) (headIn capacity U b) k fits (omega arith) u
       ∙ m .kept k u
 
-  turn-head : (c : ℕ) → c < BUCKETS → headIn capacity Y c ≡ first (inBucket T c) j n
+  turn-head : (c : ℕ) → c < bucketsOf n → headIn capacity Y c ≡ first (inBucket n T c) j n
   turn-head c u = by-test (eqb c b)
       (λ t. let q : c ≡ b = eqb-true c b t in
-      rw q (head-same capacity X b j room-X small ∙ sym (first-here (inBucket T b) j n l (in-bucket T b j (sym own)))))
+      rw q (head-same capacity X b j room-X small ∙ sym (first-here (inBucket n T b) j n l (in-bucket n T b j (sym own)))))
       (λ t. let d = eqb-false c b t in
       head-other capacity X b j room-X small c d
       ∙ next-not-head capacity U j (headIn capacity U b) room (omega arith) c
       ∙ m .head c u
-      ∙ sym (first-next (inBucket T c) j n l (not-in-bucket T c j (λ q. d (sym q ∙ sym own)))))
+      ∙ sym (first-next (inBucket n T c) j n l (not-in-bucket n T c j (λ q. d (sym q ∙ sym own)))))
 
-  turn-next : (k : ℕ) → j ≤ k → k < n → nextIn capacity Y k ≡ first (inBucket T (bucketOf (hashIn T k))) (k + 1) n
+  turn-next : (k : ℕ) → j ≤ k → k < n → nextIn capacity Y k ≡ first (inBucket n T (bucketOf n (hashIn T k))) (k + 1) n
   turn-next k low high = head-not-next capacity X b j room-X small k (omega arith) ∙ by-lt j k
       (λ d. next-other capacity U j (headIn capacity U b) room (omega arith) k d ∙ m .next k (omega arith) high)
       (λ d. let q : k ≡ j = omega arith in
-      rw q (next-same capacity U j (headIn capacity U b) room (omega arith) ∙ m .head b small ∙ ap (λ (c : ℕ). first (inBucket T c) (j + 1) n) own))
+      rw q (next-same capacity U j (headIn capacity U b) room (omega arith) ∙ m .head b inside ∙ ap (λ (c : ℕ). first (inBucket n T c) (j + 1) n) own))
 
-  pub chain-next : Chained capacity n j T (linked capacity U j)
+  pub chain-next : Chained capacity n j T (linked capacity n U j)
   unfolding linked
   chain-next = record { kept = turn-kept; head = turn-head; next = turn-next }
 
 -- at the end the chains are by the table's own hashes, which are those of T and of the table S before it was emptied
-pub chain-end : (capacity n : ℕ) (S T U : List ℕ) → Room capacity U → n ≤ capacity → Emptied capacity n BUCKETS S T → Chained capacity n 0 T U → Built capacity n S U
+pub chain-end : (capacity n : ℕ) (S T U : List ℕ) → Room capacity U → n ≤ capacity → Emptied capacity n (bucketsOf n) S T → Chained capacity n 0 T U → Built capacity n S U
 chain-end capacity n S T U room most e m =
-    let same : (b i : ℕ) → first (inBucket T b) i n ≡ first (inBucket U b) i n =
-    λ b i. first-ext (inBucket T b) (inBucket U b) i n (λ k l u. sym (bucket-same U T b k (m .kept k (omega arith)))) in
-    let own : (k : ℕ) → k < n → first (inBucket U (bucketOf (hashIn T k))) (k + 1) n ≡ first (inBucket U (bucketOf (hashIn U k))) (k + 1) n =
-    λ k l. ap (λ (h : ℕ). first (inBucket U (bucketOf h)) (k + 1) n) (sym (m .kept k (omega arith))) in
+    let same : (b i : ℕ) → first (inBucket n T b) i n ≡ first (inBucket n U b) i n =
+    λ b i. first-ext (inBucket n T b) (inBucket n U b) i n (λ k l u. sym (bucket-same n U T b k (m .kept k (omega arith)))) in
+    let own : (k : ℕ) → k < n → first (inBucket n U (bucketOf n (hashIn T k))) (k + 1) n ≡ first (inBucket n U (bucketOf n (hashIn U k))) (k + 1) n =
+    λ k l. ap (λ (h : ℕ). first (inBucket n U (bucketOf n h)) (k + 1) n) (sym (m .kept k (omega arith))) in
     record {
       indexed = record {
         room = room;
         many = most;
         head = λ b l. m .head b l ∙ same b 0;
-        next = λ k l. m .next k (omega arith) l ∙ same (bucketOf (hashIn T k)) (k + 1) ∙ own k l;
+        next = λ k l. m .next k (omega arith) l ∙ same (bucketOf n (hashIn T k)) (k + 1) ∙ own k l;
       };
       kept = λ k l. m .kept k (omega arith) ∙ e .kept k (omega arith);
     }

@@ -1,7 +1,8 @@
 -- Hashes, byte by byte and part by part: a string's hash is that of its front with the rest behind it. Assumes nothing.
-use Prim.Native.Nat.{ℕ, zero, suc, min, _+_, _-_, _≤_, _<_}
-use mathlib.Core.Path.{_≡_, refl, ap}
+use Prim.Native.Nat.{ℕ, zero, suc, min, _+_, _-_, _*_, _/_, _%_, _^_, _≤_, _<_}
+use mathlib.Core.Path.{_≡_, refl, sym, ap, _∙_}
 use mathlib.Core.List.{List, [], _∷_, _++_}
+use native.Mathlib.Nat.{div-add-mod', mul-add-mod-self-left}
 use native.Mathlib.Omega.{arith}
 use lib.ListN.{length, getD, take, drop, length-take, length-append, drop-of-length-le}
 use lib.Seq.{getD-take}
@@ -26,10 +27,15 @@ take-append (suc n) [] b = let e : suc n - 0 ≡ suc n = omega arith in rw e
 take-append (suc n) (x ∷ a) b = let e : suc n - suc (length a) ≡ n - length a = omega arith in rw (e, take-append n a b)
 
 -- a string in two parts: only the room that the first part leaves is taken of the second
-pub hash-parts : (a b : List ℕ) → hashOf (a ++ b) ≡ mixed (mixed (hashStart (length a + length b)) (take HASH_BYTES a)) (take (HASH_BYTES - length a) b)
+hash-parts : (a b : List ℕ) → hashOf (a ++ b) ≡ mixed (mixed (hashStart (length a + length b)) (take HASH_BYTES a)) (take (HASH_BYTES - length a) b)
 unfolding hashOf
 hash-parts a b =
     rw (length-append a b, take-append HASH_BYTES a b, mixed-append (hashStart (length a + length b)) (take HASH_BYTES a) (take (HASH_BYTES - length a) b))
+
+-- the front a goes behind g, the start of a string as long as a and the back b, of m bytes; b goes behind it, as far as a leaves `room`
+pub hash-joined : (r h g m room : ℕ) (a b : List ℕ)
+    → r ≡ mixed h (take room b) → h ≡ mixed g (take HASH_BYTES a) → g ≡ hashStart (length a + m) → m ≡ length b → room ≡ HASH_BYTES - length a → r ≡ hashOf (a ++ b)
+hash-joined r h g m room a b told front start long left = told ∙ rw (front, start, long, left) (sym (hash-parts a b))
 
 pub same-hash : (a b : List ℕ) → a ≡ b → hashOf a ≡ hashOf b
 same-hash a b e = ap hashOf e
@@ -46,3 +52,39 @@ module _ (g : ℕ) (s : List ℕ) (room i : ℕ) where
   mixed-end h =
       let l : length (take room s) ≤ i = rw (length-take room s) h in
       rw (drop-of-length-le (take room s) l) (mixed-none g)
+
+-- four turns at once
+pub mixed-four : (g : ℕ) (s : List ℕ) (room i : ℕ) → i + 4 ≤ min room (length s)
+    → mixed g (drop i (take room s))
+    ≡ mixed (mixedByte (mixedByte (mixedByte (mixedByte g (getD s i 0)) (getD s (i + 1) 0)) (getD s (i + 2) 0)) (getD s (i + 3) 0)) (drop (i + 4) (take room s))
+mixed-four g s room i h =
+    let two : i + 1 + 1 ≡ i + 2 = omega arith in
+    let three : i + 2 + 1 ≡ i + 3 = omega arith in
+    let four : i + 3 + 1 ≡ i + 4 = omega arith in
+    rw (
+      mixed-next g s room i (omega arith),
+      mixed-next (mixedByte g (getD s i 0)) s room (i + 1) (omega arith),
+      two,
+      mixed-next (mixedByte (mixedByte g (getD s i 0)) (getD s (i + 1) 0)) s room (i + 2) (omega arith),
+      three,
+      mixed-next (mixedByte (mixedByte (mixedByte g (getD s i 0)) (getD s (i + 1) 0)) (getD s (i + 2) 0)) s room (i + 3) (omega arith),
+      four,
+    )
+
+-- a rest that goes into the next byte's need not have been taken
+rest-late : (n x : ℕ) → mixedByte (n % 2 ^ 32) x ≡ mixedByte n x
+rest-late n x =
+    let e : n * 31 + x ≡ 2 ^ 32 * (31 * (n / 2 ^ 32)) + (n % 2 ^ 32 * 31 + x) = omega (arith, div-add-mod' n (2 ^ 32)) in
+    sym (ap (λ (y : ℕ). y % 2 ^ 32) e ∙ mul-add-mod-self-left (2 ^ 32) (31 * (n / 2 ^ 32)) (n % 2 ^ 32 * 31 + x))
+
+-- so the products of four bytes have their rest taken once
+pub four-bytes : (h a b c d : ℕ) → (h * 923521 + a * 29791 + b * 961 + c * 31 + d) % 2 ^ 32 ≡ mixedByte (mixedByte (mixedByte (mixedByte h a) b) c) d
+four-bytes h a b c d =
+    let two : (h * 31 + a) * 31 + b ≡ h * 961 + a * 31 + b = omega arith in
+    let three : (h * 961 + a * 31 + b) * 31 + c ≡ h * 29791 + a * 961 + b * 31 + c = omega arith in
+    let four : (h * 29791 + a * 961 + b * 31 + c) * 31 + d ≡ h * 923521 + a * 29791 + b * 961 + c * 31 + d = omega arith in
+    let m : ℕ → ℕ = λ (n : ℕ). n % 2 ^ 32 in
+    sym
+    (ap (λ (n : ℕ). mixedByte (mixedByte n c) d) (rest-late (h * 31 + a) b ∙ ap m two)
+    ∙ ap (λ (n : ℕ). mixedByte n d) (rest-late (h * 961 + a * 31 + b) c ∙ ap m three)
+    ∙ (rest-late (h * 29791 + a * 961 + b * 31 + c) d ∙ ap m four))

@@ -4,34 +4,39 @@ use Prim.Native.Nat.{ℕ, _+_, _≤_, _<_}
 use mathlib.Core.Path.{_≡_, refl, ap, _∙_}
 use mathlib.Core.Bool.{Bool, true, false}
 use mathlib.Core.List.{List}
+use native.Mathlib.Nat.{mod-lt}
 use native.Mathlib.Omega.{arith}
 use borrow.Author.Tests.{eq-eqb, ne-eqb, eqb-true}
 use Rattle.base_lists.specs.Ranges.{first, IsFirst}
-use Rattle.base_lists.proofs.Ranges.{by-test, both, by-lt, first-is, first-over, first-here, first-next, first-end, first-low}
-use Rattle.base_index.specs.Index.{bucketOf, hashIn, nextIn, headIn, inBucket, Indexed}
+use Rattle.base_lists.proofs.Ranges.{by-test, both, first-is, first-over, first-here, first-next, first-end, first-low}
+use Rattle.base_index.specs.Index.{bucketsOf, bucketOf, hashIn, nextIn, headIn, inBucket, Indexed}
+
+pub bucket-low : (n h : ℕ) → bucketOf n h < bucketsOf n
+unfolding bucketOf
+bucket-low n h = let p : 0 < bucketsOf n = omega arith in mod-lt h p
 
 -- an item is in the bucket of its hash alone
-module _ (T : List ℕ) (b k : ℕ) where
-  pub in-bucket : bucketOf (hashIn T k) ≡ b → inBucket T b k ≡ true
+module _ (n : ℕ) (T : List ℕ) (b k : ℕ) where
+  pub in-bucket : bucketOf n (hashIn T k) ≡ b → inBucket n T b k ≡ true
   unfolding inBucket
   in-bucket e = eq-eqb _ _ e
 
-  pub not-in-bucket : (bucketOf (hashIn T k) ≡ b → ⊥) → inBucket T b k ≡ false
+  pub not-in-bucket : (bucketOf n (hashIn T k) ≡ b → ⊥) → inBucket n T b k ≡ false
   unfolding inBucket
   not-in-bucket d = ne-eqb _ _ d
 
-  pub bucket-in : inBucket T b k ≡ true → bucketOf (hashIn T k) ≡ b
+  pub bucket-in : inBucket n T b k ≡ true → bucketOf n (hashIn T k) ≡ b
   unfolding inBucket
   bucket-in t = eqb-true _ _ t
 
-pub bucket-same : (T U : List ℕ) (b k : ℕ) → hashIn T k ≡ hashIn U k → inBucket T b k ≡ inBucket U b k
+pub bucket-same : (n : ℕ) (T U : List ℕ) (b k : ℕ) → hashIn T k ≡ hashIn U k → inBucket n T b k ≡ inBucket n U b k
 unfolding inBucket
-bucket-same T U b k e = rw e
+bucket-same n T U b k e = rw e
 
 -- the walk through h's bucket stands at item k, or behind the last one where k is n: the search for p has come as far
 pub record Reached (p : ℕ → Bool) (h : ℕ) (T : List ℕ) (n k : ℕ) : Type 0 where
   pub high : k ≤ n
-  pub here : k < n → inBucket T (bucketOf h) k ≡ true
+  pub here : k < n → inBucket n T (bucketOf n h) k ≡ true
   pub rest : first p 0 n ≡ first p k n
 
 -- what passes the test p has the hash h
@@ -51,14 +56,14 @@ module _ (p : ℕ → Bool) (h : ℕ) (T : List ℕ) (n : ℕ) where
     pub other-hash : (k : ℕ) → k < n → (hashIn T k ≡ h → ⊥) → p k ≡ false
     other-hash k l d = by-test (p k) (λ t. absurd (d (implies k l t))) (λ f. f)
 
-    other-bucket : (k : ℕ) → k < n → inBucket T (bucketOf h) k ≡ false → p k ≡ false
-    other-bucket k l f = by-test (p k) (λ t. both (in-bucket T (bucketOf h) k (ap bucketOf (implies k l t))) f) (λ g. g)
+    other-bucket : (k : ℕ) → k < n → inBucket n T (bucketOf n h) k ≡ false → p k ≡ false
+    other-bucket k l f = by-test (p k) (λ t. both (in-bucket n T (bucketOf n h) k (ap (bucketOf n) (implies k l t))) f) (λ g. g)
 
     -- the walk goes on at m, the first item from i on in a bucket b that is h's
-    reach : (i b m : ℕ) → i ≤ n → b ≡ bucketOf h → m ≡ first (inBucket T b) i n → first p 0 n ≡ first p i n → Reached p h T n m
+    reach : (i b m : ℕ) → i ≤ n → b ≡ bucketOf n h → m ≡ first (inBucket n T b) i n → first p 0 n ≡ first p i n → Reached p h T n m
     reach i b m l e f g =
-        let q : m ≡ first (inBucket T (bucketOf h)) i n = f ∙ ap (λ (c : ℕ). first (inBucket T c) i n) e in
-        let r : IsFirst (inBucket T (bucketOf h)) i n m = rw q (first-is (inBucket T (bucketOf h)) i n l) in
+        let q : m ≡ first (inBucket n T (bucketOf n h)) i n = f ∙ ap (λ (c : ℕ). first (inBucket n T c) i n) e in
+        let r : IsFirst (inBucket n T (bucketOf n h)) i n m = rw q (first-is (inBucket n T (bucketOf n h)) i n l) in
         record {
           high = r .high;
           here = r .here;
@@ -67,14 +72,14 @@ module _ (p : ℕ → Bool) (h : ℕ) (T : List ℕ) (n : ℕ) where
 
     module _ (capacity : ℕ) (x : Indexed capacity T n) where
       -- it starts at the head of h's bucket
-      pub reach-first : Reached p h T n (headIn capacity T (bucketOf h))
-      reach-first = reach 0 (bucketOf h) _ (omega arith) refl (x .head (bucketOf h) (omega arith)) refl
+      pub reach-first : Reached p h T n (headIn capacity T (bucketOf n h))
+      reach-first = reach 0 (bucketOf n h) _ (omega arith) refl (x .head (bucketOf n h) (bucket-low n h)) refl
 
       -- and goes on at the next of an item that does not pass
       pub reach-next : (k : ℕ) → Reached p h T n k → k < n → p k ≡ false → Reached p h T n (nextIn capacity T k)
       reach-next k r l f =
-          reach (k + 1) _ _ (omega arith) (bucket-in T (bucketOf h) k (r .here l)) (x .next k l) (r .rest ∙ first-next p k n l f)
+          reach (k + 1) _ _ (omega arith) (bucket-in n T (bucketOf n h) k (r .here l)) (x .next k l) (r .rest ∙ first-next p k n l f)
 
 -- the walk goes forward only
 pub next-far : (capacity : ℕ) (T : List ℕ) (n k : ℕ) → Indexed capacity T n → k < n → k < nextIn capacity T k
-next-far capacity T n k x l = rw (x .next k l) (omega (arith, first-low (inBucket T (bucketOf (hashIn T k))) (k + 1) n))
+next-far capacity T n k x l = rw (x .next k l) (omega (arith, first-low (inBucket n T (bucketOf n (hashIn T k))) (k + 1) n))

@@ -1,6 +1,7 @@
--- Of the code, not of document 01: an index of items by a hash each, in one table. A bucket has the items whose hashes agree modulo BUCKETS; for each bucket the table has
--- its first item, and for each item the next one of its bucket. Hashes decide no answer: they only say which items a search may pass over.
-use Prim.Native.Nat.{ℕ, _+_, _*_, _%_, _^_, _≤_, _<_}
+-- Of the code, not of document 01: an index of items by a hash each, in one table. A bucket has the items whose hashes agree modulo the number of buckets, which is about
+-- that of the items, so that few items cost little; for each bucket the table has its first item, and for each item the next one of its bucket. Hashes decide no answer: they
+-- only say which items a search may pass over.
+use Prim.Native.Nat.{ℕ, min, _+_, _*_, _%_, _^_, _≤_, _<_}
 use mathlib.Core.Path.{_≡_}
 use mathlib.Core.Bool.{Bool}
 use mathlib.Core.List.{List, [], _∷_}
@@ -11,6 +12,7 @@ use Rattle.base_lists.specs.Windows.{spliced}
 use Rattle.base_fields.specs.declared.ByteOrder.the-variants.{Big}
 use Rattle.base_fields.specs.Numbers.{number, encoded}
 
+-- the most buckets
 abbrev pub BUCKETS : ℕ
 BUCKETS = 4096
 
@@ -18,9 +20,10 @@ BUCKETS = 4096
 abbrev pub ITEM_LIMIT : ℕ
 ITEM_LIMIT = 12288
 
--- how many bytes of a string take part in its hash: strings that share their storage may be long
+-- how many bytes of a string take part in its hash: strings that share their storage may be long, and strings of one length do not share it, so few of them begin alike
+-- for so long
 abbrev pub HASH_BYTES : ℕ
-HASH_BYTES = 256
+HASH_BYTES = 2048
 
 -- a hash with one more byte, and with a string behind it
 abbrev pub mixedByte : ℕ → ℕ → ℕ
@@ -37,8 +40,12 @@ hashStart n = n % 2 ^ 32
 unfoldable pub hashOf : List ℕ → ℕ
 hashOf s = mixed (hashStart (length s)) (take HASH_BYTES s)
 
-abbrev pub bucketOf : ℕ → ℕ
-bucketOf h = h % BUCKETS
+-- how many buckets n items have, and the bucket of a hash among them
+abbrev pub bucketsOf : ℕ → ℕ
+bucketsOf n = min (n + 1) BUCKETS
+
+unfoldable pub bucketOf : ℕ → ℕ → ℕ
+bucketOf n h = h % bucketsOf n
 
 -- the layout of a table for `capacity` items, a word for each: their hashes, their nexts, then the heads of the buckets
 abbrev pub hashPlace : ℕ → ℕ
@@ -63,16 +70,16 @@ nextIn capacity T k = number Big 4 T (nextPlace capacity k)
 unfoldable pub headIn : ℕ → List ℕ → ℕ → ℕ
 headIn capacity T b = number Big 4 T (headPlace capacity b)
 
--- item k is in bucket b
-unfoldable pub inBucket : List ℕ → ℕ → ℕ → Bool
-inBucket T b k = eqb (bucketOf (hashIn T k)) b
+-- item k is in bucket b of those of n items
+unfoldable pub inBucket : ℕ → List ℕ → ℕ → ℕ → Bool
+inBucket n T b k = eqb (bucketOf n (hashIn T k)) b
 
 -- n items are indexed: n itself stands where a bucket has no item, or none any more
 pub record Indexed (capacity : ℕ) (T : List ℕ) (n : ℕ) : Type 0 where
   pub room : Room capacity T
   pub many : n ≤ capacity
-  pub head : (b : ℕ) → b < BUCKETS → headIn capacity T b ≡ first (inBucket T b) 0 n
-  pub next : (k : ℕ) → k < n → nextIn capacity T k ≡ first (inBucket T (bucketOf (hashIn T k))) (k + 1) n
+  pub head : (b : ℕ) → b < bucketsOf n → headIn capacity T b ≡ first (inBucket n T b) 0 n
+  pub next : (k : ℕ) → k < n → nextIn capacity T k ≡ first (inBucket n T (bucketOf n (hashIn T k))) (k + 1) n
 
 -- what building the index of n items leaves
 pub record Built (capacity n : ℕ) (before after : List ℕ) : Type 0 where
@@ -84,7 +91,7 @@ pub record Emptied (capacity n i : ℕ) (before after : List ℕ) : Type 0 where
   pub kept : (k : ℕ) → k < capacity → hashIn after k ≡ hashIn before k
   pub head : (b : ℕ) → b < i → headIn capacity after b ≡ n
 
--- item j goes to the front of its bucket
-unfoldable pub linked : ℕ → List ℕ → ℕ → List ℕ
-linked capacity T j =
-    spliced (spliced T (nextPlace capacity j) (encoded Big 4 (headIn capacity T (bucketOf (hashIn T j))))) (headPlace capacity (bucketOf (hashIn T j))) (encoded Big 4 j)
+-- item j of n goes to the front of its bucket
+unfoldable pub linked : ℕ → ℕ → List ℕ → ℕ → List ℕ
+linked capacity n T j =
+    spliced (spliced T (nextPlace capacity j) (encoded Big 4 (headIn capacity T (bucketOf n (hashIn T j))))) (headPlace capacity (bucketOf n (hashIn T j))) (encoded Big 4 j)

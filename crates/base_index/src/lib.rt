@@ -1,24 +1,33 @@
 // An index of items by a hash each, in a lent table: the first item that passes a test which implies a hash is found among the few of the hash's bucket. A caller puts
 // a hash for each item, builds, and walks from `head_of` on by `next_of`; proofs/Index.antt has the laws of that walk. Definitions and layout: specs/Index.antt.
 ghost use mathlib.Core.Path.{_≡_};
-ghost use Prim.Native.Nat.{min, _+_, _*_, _^_, _≤_, _<_};
+ghost use mathlib.Core.List.{_++_};
+ghost use Prim.Native.Nat.{min, _+_, _-_, _*_, _^_, _≤_, _<_};
 ghost use lib.ListN.{length, take};
 ghost use Rattle.base_lists.specs.Windows.{spliced};
 ghost use Rattle.base_fields.specs.declared.ByteOrder.the-variants.{Big};
 ghost use Rattle.base_fields.specs.Numbers.{encoded};
-ghost use Rattle.base_index.specs.Index.{BUCKETS, ITEM_LIMIT, mixedByte, mixed, hashStart, hashOf, bucketOf, hashPlace, nextPlace, headPlace, Room, hashIn, nextIn, headIn, Built, Emptied, linked};
+ghost use Rattle.base_index.specs.Index.{BUCKETS, ITEM_LIMIT, HASH_BYTES, mixedByte, mixed, hashStart, hashOf, bucketsOf, bucketOf, hashPlace, nextPlace, headPlace, Room, hashIn, nextIn, headIn, Built, Emptied, linked};
 use base_fields::ByteOrder;
 
 pub const BUCKETS: usize = 4096;
 
 // How many bytes of a string take part in its hash.
-pub const HASH_BYTES: usize = 256;
+pub const HASH_BYTES: usize = 2048;
 
 // A hash with one more byte.
 fn mix(h: u32, b: u8) -> u32
     ensures { λ r. ⌜ r ≡ mixedByte h b ⌝ }
 {
     ((h as u64 * 31 + b as u64) % 4294967296) as u32
+}
+
+// A hash with four more bytes: one product behind the other would wait for each.
+fn mix_four(h: u32, a: u8, b: u8, c: u8, d: u8) -> u32
+    ensures { λ r. ⌜ r ≡ mixedByte (mixedByte (mixedByte (mixedByte h a) b) c) d ⌝ }
+{
+    let sum = h as u64 * 923521 + a as u64 * 29791 + b as u64 * 961 + c as u64 * 31 + d as u64;
+    (sum % 4294967296) as u32
 }
 
 // The lesser of two lengths.
@@ -39,8 +48,13 @@ pub fn hash_on(h: u32, s: &[u8], room: usize) -> u32
     let mut g = h;
     let mut i: usize = 0;
     while i < end {
-        g = mix(g, s[i]);
-        i += 1;
+        if end - i < 4 {
+            g = mix(g, s[i]);
+            i += 1;
+        } else {
+            g = mix_four(g, s[i], s[i + 1], s[i + 2], s[i + 3]);
+            i += 4;
+        }
     }
     g
 }
@@ -59,11 +73,40 @@ pub fn hash_of(s: &[u8]) -> u32
     hash_on(hash_start(s.len()), s, HASH_BYTES)
 }
 
-// The bucket of a hash.
-fn bucket_of(h: u32) -> usize
-    ensures { λ r. ⌜ (r ≡ bucketOf h) × (r < BUCKETS) ⌝ }
+// How many bytes of a string are hashed behind its first n.
+pub fn room_behind(n: usize) -> usize
+    ensures { λ r. ⌜ r ≡ HASH_BYTES - n ⌝ }
 {
-    h as usize % BUCKETS
+    if n < HASH_BYTES {
+        return HASH_BYTES - n;
+    }
+    0
+}
+
+// The hash of a string in two parts.
+pub fn hash_joined(front: &[u8], back: &[u8]) -> u32
+    ensures { λ r. ⌜ r ≡ hashOf (now (front .entry) ++ now (back .entry)) ⌝ }
+{
+    let start = hash_start(front.len() + back.len());
+    let h = hash_on(start, front, HASH_BYTES);
+    hash_on(h, back, room_behind(front.len()))
+}
+
+// How many buckets n items have.
+fn buckets_of(n: usize) -> usize
+    ensures { λ r. ⌜ (r ≡ bucketsOf n) × (1 ≤ r) × (r ≤ BUCKETS) ⌝ }
+{
+    if n < BUCKETS {
+        return n + 1;
+    }
+    BUCKETS
+}
+
+// The bucket of a hash, among those of n items.
+fn bucket_of(n: usize, h: u32) -> usize
+    ensures { λ r. ⌜ (r ≡ bucketOf n h) × (r < BUCKETS) ⌝ }
+{
+    h as usize % buckets_of(n)
 }
 
 // Where the next of item k stands.
@@ -98,12 +141,12 @@ pub fn hash_at(table: &[u8], k: usize) -> u32
     base_fields::read32(ByteOrder::Big, table, 4 * k)
 }
 
-// The first item of a hash's bucket.
-pub fn head_of(table: &[u8], cap: usize, h: u32) -> usize
+// The first of n items in a hash's bucket.
+pub fn head_of(table: &[u8], cap: usize, n: usize, h: u32) -> usize
     requires { ⌜ Room cap (now table) ⌝ }
-    ensures { λ r. ⌜ (r ≡ headIn cap (now (table .entry)) (bucketOf h)) × (r < 2 ^ 32) ⌝ }
+    ensures { λ r. ⌜ (r ≡ headIn cap (now (table .entry)) (bucketOf n h)) × (r < 2 ^ 32) ⌝ }
 {
-    base_fields::read32(ByteOrder::Big, table, head_place(cap, bucket_of(h))) as usize
+    base_fields::read32(ByteOrder::Big, table, head_place(cap, bucket_of(n, h))) as usize
 }
 
 // The next item of item k's bucket.
@@ -117,27 +160,28 @@ pub fn next_of(table: &[u8], cap: usize, k: usize) -> usize
 // Empties every bucket of an index of n items.
 fn empty_heads(table: &mut [u8], cap: usize, n: usize)
     requires { ⌜ Room cap (now table) × (n ≤ cap) ⌝ }
-    ensures { λ _. ⌜ Emptied cap n BUCKETS (now (table .entry)) (now (table .exit)) ⌝ }
+    ensures { λ _. ⌜ Emptied cap n (bucketsOf n) (now (table .entry)) (now (table .exit)) ⌝ }
 {
+    let most = buckets_of(n);
     let mut b: usize = 0;
-    while b < BUCKETS {
+    while b < most {
         base_fields::write32(ByteOrder::Big, table, head_place(cap, b), n as u32);
         b += 1;
     }
 }
 
-// Puts item j in front of its bucket.
-fn link(table: &mut [u8], cap: usize, j: usize)
+// Puts item j of n in front of its bucket.
+fn link(table: &mut [u8], cap: usize, n: usize, j: usize)
     requires { ⌜ Room cap (now table) × (j < cap) ⌝ }
-    ensures { λ _. ⌜ now (table .exit) ≡ linked cap (now (table .entry)) j ⌝ }
+    ensures { λ _. ⌜ now (table .exit) ≡ linked cap n (now (table .entry)) j ⌝ }
 {
     let h = hash_at(table, j);
-    let next = head_of(table, cap, h) as u32;
+    let next = head_of(table, cap, n, h) as u32;
     base_fields::write32(ByteOrder::Big, table, next_place(cap, j), next);
     base_fields::write32(
         ByteOrder::Big,
         table,
-        head_place(cap, bucket_of(h)),
+        head_place(cap, bucket_of(n, h)),
         j as u32,
     );
 }
@@ -151,6 +195,6 @@ pub fn build(table: &mut [u8], cap: usize, n: usize)
     let mut j = n;
     while 0 < j {
         j -= 1;
-        link(table, cap, j);
+        link(table, cap, n, j);
     }
 }

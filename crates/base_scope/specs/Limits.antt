@@ -118,6 +118,13 @@ POSITION_TABLE = 4 * ID_LIMIT
 abbrev pub INDEX_TABLE : ℕ
 INDEX_TABLE = 8 * ID_LIMIT + 16384
 
+-- the same of an object's symbols; and with the table of blocks before it, what taking in C and the block file needs
+abbrev pub SYMBOL_INDEX : ℕ
+SYMBOL_INDEX = 8 * SYMBOL_LIMIT + 16384
+
+abbrev pub OPEN_TABLE : ℕ
+OPEN_TABLE = BLOCK_TABLE + SYMBOL_INDEX
+
 -- a number with its limit: it may not pass it, or may not fall below it
 pub data Bound : Type 0 where
   atMost : ℕ → ℕ → Bound

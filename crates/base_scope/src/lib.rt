@@ -67,6 +67,10 @@ pub const POSITION_TABLE: usize = 49152;
 
 pub const INDEX_TABLE: usize = 114688;
 
+pub const SYMBOL_INDEX: usize = 49152;
+
+pub const OPEN_TABLE: usize = 98304;
+
 pub const ELFCLASS32: u8 = 1;
 
 pub const ELFDATA2LSB: u8 = 1;

@@ -16,6 +16,7 @@ use Rattle.base_scope.specs.Codes.{LINES, lineCode}
 use Rattle.base_scope.specs.Limits.{PLACE_ROW}
 use Rattle.elf_symbols.specs.declared.SymbolTable.{SymbolTable}
 use Rattle.elf_symbols.specs.Symbols.{Table}
+use Rattle.elf_index.specs.Index.{SymbolIndex}
 use Rattle.blocks_file.specs.Table.{Parsed}
 use Rattle.blocks_places.specs.declared.Placing.{Placing}
 use Rattle.blocks_places.specs.declared.LineStep.{LineStep}
@@ -77,8 +78,9 @@ stepOf o C B j = record {
   on = reached o C B (j + 1);
 }
 
--- line j of a block file in hand, and the compiled object's symbols
-pub record AtLine (o : ByteOrder) (C B : List ℕ) (t : SymbolTable) (table : List ℕ) (j : ℕ) : Type 0 where
+-- line j of a block file in hand, and the compiled object's symbols with their index
+pub record AtLine (o : ByteOrder) (C B : List ℕ) (t : SymbolTable) (index table : List ℕ) (j : ℕ) : Type 0 where
   pub symbols : Table o C t
+  pub indexed : SymbolIndex o C index
   pub parsed : Parsed B table
   pub inside : j < lineCount B

@@ -12,6 +12,7 @@ ghost use Rattle.base_fields.specs.Numbers.{encoded};
 ghost use Rattle.base_scope.specs.Codes.{LINES, lineCode};
 ghost use Rattle.base_scope.specs.Limits.{NUMBER_LIMIT, ALIGN8_LIMIT, BLOCK_LIMIT, PLACE_ROW, PLACE_TABLE};
 ghost use Rattle.elf_symbols.specs.Symbols.{Table};
+ghost use Rattle.elf_index.specs.Index.{SymbolIndex};
 ghost use Rattle.blocks_file.specs.Blocks.{blockCount};
 ghost use Rattle.blocks_file.specs.Table.{Parsed};
 ghost use Rattle.blocks_places.specs.Lines.{lineCount, spanValue, labelled, spanLabel, spanSize, spanAlign8};
@@ -149,14 +150,15 @@ fn label_symbol(
     order: ByteOrder,
     compiled: &[u8],
     symbols: SymbolTable,
+    index: &[u8],
     file: &[u8],
     table: &[u8],
     j: usize,
 ) -> usize
-    requires { ⌜ AtLine order (now compiled) (now file) symbols (now table) j ⌝ }
+    requires { ⌜ AtLine order (now compiled) (now file) symbols (now index) (now table) j ⌝ }
     ensures { λ r. ⌜ r ≡ labelSymbol order (now (compiled .entry)) (now (file .entry)) j ⌝ }
 {
-    elf_symbols::symbol_named(order, compiled, symbols, span_label(file, table, j))
+    elf_index::symbol_indexed(order, compiled, symbols, index, span_label(file, table, j))
 }
 
 // The step of line j, which has a label and is reached; `end` is the end of the block before in its section.
@@ -164,17 +166,18 @@ fn label_step(
     order: ByteOrder,
     compiled: &[u8],
     symbols: SymbolTable,
+    index: &[u8],
     file: &[u8],
     table: &[u8],
     j: usize,
     end: usize,
 ) -> LineStep
-    requires { ⌜ AtLine order (now compiled) (now file) symbols (now table) j × (end ≡ endAt (placesOf order (now compiled) (now file)) (now file) j (lineCode j))
+    requires { ⌜ AtLine order (now compiled) (now file) symbols (now index) (now table) j × (end ≡ endAt (placesOf order (now compiled) (now file)) (now file) j (lineCode j))
         × (labelled (now file) j ≡ true) × (reached order (now compiled) (now file) j ≡ true) ⌝ }
     ensures { λ r. ⌜ r ≡ stepOf order (now (compiled .entry)) (now (file .entry)) j ⌝ }
 {
     let size = span_size(file, table, j);
-    let k = label_symbol(order, compiled, symbols, file, table, j);
+    let k = label_symbol(order, compiled, symbols, index, file, table, j);
     if k < symbols.count {
         let align8 = span_align8(file, table, j);
         let s = elf_symbols::symbol_at(order, compiled, symbols.at, k);
@@ -188,18 +191,19 @@ fn step_of(
     order: ByteOrder,
     compiled: &[u8],
     symbols: SymbolTable,
+    index: &[u8],
     file: &[u8],
     table: &[u8],
     j: usize,
     end: usize,
     on: bool,
 ) -> LineStep
-    requires { ⌜ AtLine order (now compiled) (now file) symbols (now table) j × (end ≡ endAt (placesOf order (now compiled) (now file)) (now file) j (lineCode j))
+    requires { ⌜ AtLine order (now compiled) (now file) symbols (now index) (now table) j × (end ≡ endAt (placesOf order (now compiled) (now file)) (now file) j (lineCode j))
         × (on ≡ reached order (now compiled) (now file) j) ⌝ }
     ensures { λ r. ⌜ r ≡ stepOf order (now (compiled .entry)) (now (file .entry)) j ⌝ }
 {
     if base_scope::both(is_labelled(file, table, j), on) {
-        return label_step(order, compiled, symbols, file, table, j, end);
+        return label_step(order, compiled, symbols, index, file, table, j, end);
     }
     off_step(false, end, on_after(j, on))
 }
@@ -214,17 +218,18 @@ fn store_place(places: &mut [u8], j: usize, taken: u32, place: u32)
 }
 
 // The walk: every line in order, by 8 and then by 9; the rows of the lines before the fault, or of all, go into the table of places. `symbols` is the compiled
-// object's symbol table in hand, `blocks` is how many blocks the file has.
+// object's symbol table in hand, `index` that of its names, `blocks` is how many blocks the file has.
 pub fn place_spans(
     order: ByteOrder,
     compiled: &[u8],
     symbols: SymbolTable,
+    index: &[u8],
     file: &[u8],
     table: &[u8],
     blocks: usize,
     places: &mut [u8],
 ) -> Placing
-    requires { ⌜ Table order (now compiled) symbols × Parsed (now file) (now table) × (blocks ≡ blockCount (now file)) × (PLACE_TABLE ≤ length (now places)) ⌝ }
+    requires { ⌜ Table order (now compiled) symbols × Parsed (now file) (now table) × (blocks ≡ blockCount (now file)) × (PLACE_TABLE ≤ length (now places)) × SymbolIndex order (now compiled) (now index) ⌝ }
     ensures { λ r. ⌜ Placement order (now (compiled .entry)) (now (file .entry)) r (now (places .entry)) (now (places .exit)) ⌝ }
 {
     let mut ends = [0usize; base_scope::LINE_INDICES];
@@ -232,7 +237,7 @@ pub fn place_spans(
     let mut j: usize = 0;
     while j < base_scope::LINES * blocks {
         let c = base_scope::line_code(j) as usize;
-        let s = step_of(order, compiled, symbols, file, table, j, ends[c], on);
+        let s = step_of(order, compiled, symbols, index, file, table, j, ends[c], on);
         if s.misplaced {
             return Placing::Misplaced(base_scope::line_block(j));
         }

@@ -14,7 +14,7 @@ use Rattle.blocks_spans.specs.Spans.{spansOf}
 use Rattle.blocks_spans.specs.Table.{Gathered}
 use Rattle.blocks_spans.proofs.Table.{gathered-is, rows-of}
 use Rattle.merge_buffers.specs.Buffers.{PLACE_BUFFER, INDEX_BUFFER, blocksPart, placesPart}
-use Rattle.merge_buffers.proofs.Parts.{lent, putBack, part-long, part-lent, put-table, put-kept, kept-part}
+use Rattle.base_buffers.proofs.Parts.{lent, putBack, part-long, part-lent, put-table, put-kept, kept-part}
 use Rattle.merge_sections.specs.declared.Stage.{Stage}
 use Rattle.merge_kept.specs.Kept.{kept}
 use Rattle.merge_kept.proofs.Kept.{kept-le}

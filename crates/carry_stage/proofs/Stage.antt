@@ -24,7 +24,7 @@ use Rattle.blocks_spans.specs.Copied.{copied}
 use Rattle.late_walk.specs.Table.{Moves}
 use Rattle.late_laws.proofs.Copied.{moves-copied}
 use Rattle.merge_buffers.specs.Buffers.{NUMBERS_AT, blocksPart, placesPart, lateStepPart, orderPart, numbersPart, BuffersHeld}
-use Rattle.merge_buffers.proofs.Parts.{part-long, kept-part}
+use Rattle.base_buffers.proofs.Parts.{part-long, kept-part}
 use Rattle.merge_labels.specs.Labels.{lateStart}
 use Rattle.merge_sections.specs.declared.Stage.{Stage}
 use Rattle.merge_sections.specs.Stages.{StageRead, Movable}

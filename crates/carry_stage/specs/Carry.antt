@@ -21,7 +21,8 @@ use Rattle.blocks_spans.specs.Table.{spansIn, Rows}
 use Rattle.blocks_spans.specs.Copied.{copied}
 use Rattle.late_length.specs.Late.{hasLateStep}
 use Rattle.late_walk.specs.Table.{Moves}
-use Rattle.merge_buffers.specs.Buffers.{STEP_BUFFER, INDEX_BUFFER, placesPart, lateStepPart, numbersPart, KeptBefore}
+use Rattle.base_buffers.specs.Parts.{KeptBefore}
+use Rattle.merge_buffers.specs.Buffers.{STEP_BUFFER, INDEX_BUFFER, placesPart, lateStepPart, numbersPart}
 use Rattle.merge_labels.specs.Labels.{lateStart}
 use Rattle.merge_sections.specs.declared.Stage.{Stage}
 use Rattle.merge_kept.specs.Kept.{kept}

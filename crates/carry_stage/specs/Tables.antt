@@ -3,7 +3,8 @@
 use Prim.Native.Nat.{ℕ, _+_}
 use mathlib.Core.List.{List}
 use Rattle.base_scope.specs.Limits.{SPAN_TABLE}
-use Rattle.merge_buffers.specs.Buffers.{HOLDERS_AT, SPANS_END, partAt}
+use Rattle.base_buffers.specs.Parts.{partAt}
+use Rattle.merge_buffers.specs.Buffers.{HOLDERS_AT, SPANS_END}
 use Rattle.carry_homes.specs.Code.{HOME_TABLE}
 
 -- in the index: the rows of .text's spans

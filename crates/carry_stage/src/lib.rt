@@ -45,10 +45,10 @@ fn text_spans(file: &[u8], blocks: usize, table: &[u8], places: &[u8], index: &m
         × (blocks ≡ blockCount (now file)) × (BLOCK_BUFFER ≤ length (now table)) × (PLACE_BUFFER ≤ length (now places)) × (INDEX_BUFFER ≤ length (now index)) ⌝ }
     ensures { λ r. ⌜ TextSpansLeft (now (file .entry)) (now (places .entry)) r (now (index .entry)) (now (index .exit)) ⌝ }
 {
-    let own = merge_buffers::part(table, 0, base_scope::BLOCK_TABLE);
-    let lines = merge_buffers::part(places, 0, base_scope::PLACE_TABLE);
-    let from = merge_buffers::bound(CARRY_SPANS_AT);
-    let to = merge_buffers::bound(merge_buffers::INDEX_BUFFER);
+    let own = base_buffers::part(table, 0, base_scope::BLOCK_TABLE);
+    let lines = base_buffers::part(places, 0, base_scope::PLACE_TABLE);
+    let from = base_buffers::bound(CARRY_SPANS_AT);
+    let to = base_buffers::bound(merge_buffers::INDEX_BUFFER);
     blocks_spans::gather_spans(
         file,
         own,
@@ -73,8 +73,8 @@ fn find_homes(
 {
     let order = inputs.order;
     let source = inputs.assembled;
-    let from = merge_buffers::bound(HOMES_AT);
-    let to = merge_buffers::bound(HOMES_END);
+    let from = base_buffers::bound(HOMES_AT);
+    let to = base_buffers::bound(HOMES_END);
     carry_homes::list_homes(
         order,
         compiled,
@@ -215,8 +215,8 @@ pub fn carry_fault(
     requires { ⌜ SidesRead (now compiled) (now assembled) stage carry (now steps) (now index) ⌝ }
     ensures { λ r. ⌜ CarryJudged (now (compiled .entry)) (now (assembled .entry)) stage carry r (now (steps .entry)) (now (index .entry)) ⌝ }
 {
-    let rows = merge_buffers::part(index, CARRY_SPANS_AT, base_scope::SPAN_TABLE);
-    let late = merge_buffers::part(steps, 0, base_scope::LATE_TABLE);
-    let numbers = merge_buffers::part(index, merge_buffers::NUMBERS_AT, base_scope::POSITION_TABLE);
+    let rows = base_buffers::part(index, CARRY_SPANS_AT, base_scope::SPAN_TABLE);
+    let late = base_buffers::part(steps, 0, base_scope::LATE_TABLE);
+    let numbers = base_buffers::part(index, merge_buffers::NUMBERS_AT, base_scope::POSITION_TABLE);
     losses_verdict(compiled, assembled, stage, carry, rows, late, numbers)
 }

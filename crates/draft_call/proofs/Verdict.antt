@@ -6,7 +6,7 @@ use mathlib.Core.Bool.{true, false}
 use mathlib.Core.List.{List}
 use lib.ListN.{length}
 use Rattle.base_scope.specs.Refusals.{LIMITS}
-use Rattle.base_scope.specs.Limits.{FILE_LIMIT, BLOCK_TABLE, PLACE_TABLE, overLimits, Kept}
+use Rattle.base_scope.specs.Limits.{FILE_LIMIT, OPEN_TABLE, PLACE_TABLE, overLimits, Kept}
 use Rattle.base_scope.proofs.Limits.{in-limits}
 use Rattle.base_answers.specs.declared.Verdict.the-variants.{Passed, Refused}
 use Rattle.base_answers.specs.Answers.{refused, NONE, roomFor}
@@ -28,7 +28,7 @@ pub record DraftLimits (compiled prelude blocks table places : ℕ) : Type 0 whe
   pub compiled-limit : compiled ≤ FILE_LIMIT
   pub prelude-limit : prelude ≤ FILE_LIMIT
   pub blocks-limit : blocks ≤ FILE_LIMIT
-  pub table-size : BLOCK_TABLE ≤ table
+  pub table-size : OPEN_TABLE ≤ table
   pub places-size : PLACE_TABLE ≤ places
 
 pub draft-limits : (compiled prelude blocks table places : ℕ) → overLimits (draftBounds compiled prelude blocks table places) ≡ false → DraftLimits compiled prelude blocks table places

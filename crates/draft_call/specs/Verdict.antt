@@ -2,7 +2,7 @@
 use Prim.Native.Nat.{ℕ}
 use mathlib.Core.List.{List, [], _∷_}
 use lib.ListN.{length}
-use Rattle.base_scope.specs.Limits.{FILE_LIMIT, BLOCK_TABLE, PLACE_TABLE, Bound, atMost, atLeast, overLimits}
+use Rattle.base_scope.specs.Limits.{FILE_LIMIT, OPEN_TABLE, PLACE_TABLE, Bound, atMost, atLeast, overLimits}
 use Rattle.base_answers.specs.Answers.{Answer, roomFor}
 use Rattle.base_answers.specs.Verdicts.{also, ifPassed, limitVerdict}
 use Rattle.elf_readers.specs.Readers.{orderOf}
@@ -16,7 +16,7 @@ draftBounds compiled prelude blocks table places =
     atMost FILE_LIMIT compiled
     ∷ atMost FILE_LIMIT prelude
     ∷ atMost FILE_LIMIT blocks
-    ∷ atLeast BLOCK_TABLE table
+    ∷ atLeast OPEN_TABLE table
     ∷ atLeast PLACE_TABLE places
     ∷ []
 

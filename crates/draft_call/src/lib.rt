@@ -1,9 +1,16 @@
 // The draft: an exported call on numbers and byte slices. It takes any bytes and any buffer lengths, and equals `draftVerdict` of specs/Verdict.antt:
 // number, object and place, or the length; the output holds the text and zeros past it, and the working buffers are zero.
 ghost use mathlib.Core.Path.{_≡_};
+ghost use Prim.Native.Nat.{_≤_};
 ghost use lib.ListN.{length};
-ghost use Rattle.base_scope.specs.Limits.{overLimits};
+ghost use Rattle.base_lists.specs.Written.{Written};
+ghost use Rattle.base_buffers.specs.Parts.{partAt};
+ghost use Rattle.base_scope.specs.Limits.{FILE_LIMIT, BLOCK_TABLE, OPEN_TABLE, overLimits};
 ghost use Rattle.base_answers.specs.Answered.{Answered};
+ghost use Rattle.blocks_file.specs.Blocks.{blockCount};
+ghost use Rattle.blocks_places.specs.Lines.{lineCount};
+ghost use Rattle.blocks_places.specs.Table.{placesIn, Laid};
+ghost use Rattle.draft_text.specs.Draft.{draftText};
 ghost use Rattle.draft_call.specs.Verdict.{draftBounds, draftVerdict};
 ghost use Rattle.draft_call.specs.Drafted.{Drafted};
 use base_answers::Outcome;
@@ -28,13 +35,30 @@ fn breaks_draft_bounds(
     if blocks > base_scope::FILE_LIMIT {
         return true;
     }
-    if table < base_scope::BLOCK_TABLE {
+    if table < base_scope::OPEN_TABLE {
         return true;
     }
     if places < base_scope::PLACE_TABLE {
         return true;
     }
     false
+}
+
+// Writes the text from the start of the output, and answers its length, also where it does not fit; the table of blocks stands at the front of its buffer.
+fn append_text(
+    out: &mut [u8],
+    prelude: &[u8],
+    file: &[u8],
+    table: &[u8],
+    places: &[u8],
+    count: usize,
+) -> u64
+    requires { ⌜ Laid (placesIn (now places) (lineCount (now file))) (now file) (partAt 0 BLOCK_TABLE (now table)) (now places) × (count ≡ blockCount (now file))
+        × (length (now prelude) ≤ FILE_LIMIT) × (OPEN_TABLE ≤ length (now table)) ⌝ }
+    ensures { λ r. ⌜ Written (now (out .entry)) 0 (draftText (placesIn (now (places .entry)) (lineCount (now (file .entry)))) (now (file .entry)) (now (prelude .entry))) r (now (out .exit)) ⌝ }
+{
+    let own = base_buffers::part(table, 0, base_scope::BLOCK_TABLE);
+    draft_text::append_draft(out, prelude, file, own, places, count)
 }
 
 // The answer, and the text at the front of the output.
@@ -59,7 +83,7 @@ fn draft_answer(
     }
     match open_inputs::open(compiled, blocks, table, places) {
         Opened::Blocks(count) => {
-            let n = draft_text::append_draft(out, prelude, blocks, table, places, count);
+            let n = append_text(out, prelude, blocks, table, places, count);
             if n <= out.len() as u64 {
                 return base_answers::result(n);
             }

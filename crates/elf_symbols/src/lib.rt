@@ -1,10 +1,10 @@
-// The symbols of an object: the first SYMTAB, its entries and names, and the first symbol of a name. Each equals its definition in specs/.
+// The symbols of an object: the first SYMTAB, its entries and names. Each equals its definition in specs/; the crate elf_index finds the first symbol of a name.
 ghost use mathlib.Core.Path.{_≡_};
 ghost use Prim.Native.Nat.{_-_, _≤_, _<_};
 ghost use lib.ListN.{length, take, drop};
 ghost use Rattle.elf_readers.specs.Readers.{sectionCount};
 ghost use Rattle.elf_readers.specs.Bounds.{Headed};
-ghost use Rattle.elf_symbols.specs.Symbols.{isSymtab, symtab, symbolCount, symbolPlace, symbol, symbolTable, symbolName, isSymbolNamed, symbolNamed, Tabled, Table, Entries};
+ghost use Rattle.elf_symbols.specs.Symbols.{isSymtab, symtab, symbolCount, symbolPlace, symbol, symbolTable, symbolName, Tabled, Entries};
 use base_fields::ByteOrder;
 use elf_records::SymbolEntry;
 
@@ -89,38 +89,4 @@ pub fn symbol_name<'a>(
 {
     let s = symbol_at(order, file, at, k);
     base_names::name_at(strings, s.st_name as usize)
-}
-
-// Whether symbol k has a name.
-fn is_symbol_named(
-    order: ByteOrder,
-    file: &[u8],
-    at: usize,
-    strings: &[u8],
-    name: &[u8],
-    k: usize,
-) -> bool
-    requires { ⌜ Entries order (now file) at (now strings) × (k < symbolCount order (now file)) ⌝ }
-    ensures { λ r. ⌜ r ≡ isSymbolNamed order (now (file .entry)) (now (name .entry)) k ⌝ }
-{
-    let s = symbol_at(order, file, at, k);
-    base_names::name_is(strings, s.st_name as usize, name)
-}
-
-// The first symbol of a name, or the symbol count.
-pub fn symbol_named(order: ByteOrder, file: &[u8], table: SymbolTable, name: &[u8]) -> usize
-    requires { ⌜ Table order (now file) table ⌝ }
-    ensures { λ r. ⌜ r ≡ symbolNamed order (now (file .entry)) (now (name .entry)) ⌝ }
-{
-    let strings = strings_of(file, table);
-    let at = table.at;
-    let n = table.count;
-    let mut k: usize = 0;
-    while k < n {
-        if is_symbol_named(order, file, at, strings, name, k) {
-            return k;
-        }
-        k += 1;
-    }
-    n
 }

@@ -1,10 +1,10 @@
 -- Of the code, not of document 01: the working buffers of a merge. Each of the four holds tables that are written one behind the other, in this order, and then only read;
 -- a table is never written while another one of its buffer is read (docs/SIZES.md).
 use Prim.Native.Nat.{ℕ, _+_, _≤_}
-use mathlib.Core.Path.{_≡_}
 use mathlib.Core.List.{List}
-use lib.ListN.{length, take, drop}
-use Rattle.base_scope.specs.Limits.{BLOCK_TABLE, PLACE_TABLE, SPAN_TABLE, LATE_TABLE, STATIC_TABLE, USED_TABLE, GLABEL_TABLE, ID_TABLE, POSITION_TABLE, INDEX_TABLE}
+use lib.ListN.{length}
+use Rattle.base_buffers.specs.Parts.{partAt}
+use Rattle.base_scope.specs.Limits.{BLOCK_TABLE, PLACE_TABLE, SPAN_TABLE, LATE_TABLE, STATIC_TABLE, USED_TABLE, GLABEL_TABLE, ID_TABLE, POSITION_TABLE, SYMBOL_INDEX, INDEX_TABLE}
 
 -- ---- where tables start, and how long the buffers are
 
@@ -38,7 +38,8 @@ LIST_AT = GLABELS_AT + GLABEL_TABLE
 abbrev pub STEP_BUFFER : ℕ
 STEP_BUFFER = LIST_AT + POSITION_TABLE
 
--- the index by hash, of A's symbols and then of the list; behind its last use, over it, the order of the result and the numbers of the ids, then spans of a section
+-- the index by hash, of A's symbols, which the line-up and the glabels are read by, and then of the list; behind its last use, over it, the order of the result and the
+-- numbers of the ids, then spans of a section
 abbrev pub NUMBERS_AT : ℕ
 NUMBERS_AT = POSITION_TABLE
 
@@ -52,13 +53,6 @@ abbrev pub INDEX_BUFFER : ℕ
 INDEX_BUFFER = INDEX_TABLE
 
 -- ---- the tables
-
--- the part of `size` bytes that starts at `at`, and what stands before `at`
-unfoldable pub partAt : ℕ → ℕ → List ℕ → List ℕ
-partAt at size l = take size (drop at l)
-
-unfoldable pub frontOf : ℕ → List ℕ → List ℕ
-frontOf at l = take at l
 
 abbrev pub blocksPart : List ℕ → List ℕ
 blocksPart l = partAt 0 BLOCK_TABLE l
@@ -87,6 +81,9 @@ glabelsPart l = partAt GLABELS_AT GLABEL_TABLE l
 abbrev pub listPart : List ℕ → List ℕ
 listPart l = partAt LIST_AT POSITION_TABLE l
 
+abbrev pub namesPart : List ℕ → List ℕ
+namesPart l = partAt 0 SYMBOL_INDEX l
+
 abbrev pub orderPart : List ℕ → List ℕ
 orderPart l = partAt 0 POSITION_TABLE l
 
@@ -99,10 +96,3 @@ pub record BuffersHeld (table places steps index : List ℕ) : Type 0 where
   pub places-long : PLACE_BUFFER ≤ length places
   pub steps-long : STEP_BUFFER ≤ length steps
   pub index-long : INDEX_BUFFER ≤ length index
-
--- ---- writing a table
-
--- what stands before `at` stays, and so does the length
-pub record KeptBefore (at : ℕ) (before after : List ℕ) : Type 0 where
-  pub front : frontOf at after ≡ frontOf at before
-  pub long : length after ≡ length before

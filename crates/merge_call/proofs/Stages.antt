@@ -5,7 +5,9 @@ use mathlib.Core.List.{List}
 use native.Mathlib.Omega.{arith}
 use lib.ListN.{length}
 use Rattle.base_buffers.specs.Buffers.{zeros, zeroedFrom}
-use Rattle.base_scope.specs.Limits.{LATE_TABLE, BLOCK_TABLE, PLACE_TABLE}
+use Rattle.base_fields.specs.declared.ByteOrder.{ByteOrder}
+use Rattle.base_index.specs.Index.{Room}
+use Rattle.base_scope.specs.Limits.{SYMBOL_LIMIT, LATE_TABLE, BLOCK_TABLE, PLACE_TABLE, SYMBOL_INDEX}
 use Rattle.base_scope.specs.declared.Finding.{Finding}
 use Rattle.base_answers.specs.declared.Outcome.{Outcome}
 use Rattle.base_answers.specs.declared.Verdict.{Verdict}
@@ -13,12 +15,13 @@ use Rattle.base_answers.specs.declared.Verdict.the-variants.{Passed, Refused}
 use Rattle.base_answers.specs.Answers.{Answer, refused}
 use Rattle.base_answers.specs.Answered.{Answered}
 use Rattle.base_answers.proofs.Answered.{answered-output}
+use Rattle.elf_index.specs.Index.{SymbolIndex}
 use Rattle.blocks_places.specs.Lines.{lineCount}
 use Rattle.blocks_places.specs.Table.{placesIn}
 use Rattle.open_inputs.specs.declared.Opened.{Opened}
 use Rattle.statics_table.specs.Statics.{nameHead}
-use Rattle.merge_buffers.specs.Buffers.{ROWS_AT, HOLDERS_AT, USED_AT, BLOCK_BUFFER, PLACE_BUFFER, STEP_BUFFER, blocksPart, placesPart, lateStepPart, BuffersHeld}
-use Rattle.merge_buffers.proofs.Parts.{lent, putBack, part-long, part-lent, put-table, kept-part}
+use Rattle.merge_buffers.specs.Buffers.{ROWS_AT, HOLDERS_AT, USED_AT, PLACE_BUFFER, STEP_BUFFER, INDEX_BUFFER, blocksPart, placesPart, lateStepPart, namesPart, BuffersHeld}
+use Rattle.base_buffers.proofs.Parts.{lent, putBack, part-long, part-lent, put-table, kept-part}
 use Rattle.merge_inputs.specs.Taken.{Took}
 use Rattle.merge_sections.specs.declared.Stage.{Stage}
 use Rattle.merge_sections.specs.Stages.{StageRead, Movable, Searched}
@@ -42,16 +45,23 @@ use Rattle.merge_call.specs.Merged.{Merged}
 
 -- ---- the inputs
 
--- their tables stand at the start of their buffers
-module _ (from tableEnd placesEnd : ℕ) (table places : List ℕ) (starts : from ≡ 0) (ends : tableEnd ≡ ROWS_AT) (ends-2 : placesEnd ≡ HOLDERS_AT) (room : BLOCK_BUFFER ≤ length table)
-    (room-2 : PLACE_BUFFER ≤ length places) where
-  pub took-put : (C A B : List ℕ) (r : Opened) (part part2 : List ℕ) → length part ≡ length (lent from tableEnd table) → length part2 ≡ length (lent from placesEnd places)
-      → Took C A B r part part2 → Took C A B r (blocksPart (putBack from tableEnd table part)) (placesPart (putBack from placesEnd places part2))
-  took-put C A B r part part2 same same-2 w =
-      rw (
-        put-table 0 BLOCK_TABLE from tableEnd table part (putBack from tableEnd table part) starts ends (omega (arith, room)) same refl,
-        put-table 0 PLACE_TABLE from placesEnd places part2 (putBack from placesEnd places part2) starts ends-2 (omega (arith, room-2)) same-2 refl,
-      ) w
+-- the places stand at the start of their buffer, as the blocks do in theirs
+pub took-put : (from to : ℕ) (places : List ℕ) → from ≡ 0 → to ≡ HOLDERS_AT → PLACE_BUFFER ≤ length places → (C A B : List ℕ) (r : Opened) (table part : List ℕ)
+    → length part ≡ length (lent from to places) → Took C A B r table part → Took C A B r table (placesPart (putBack from to places part))
+took-put from to places starts ends room C A B r table part same w =
+    rw (put-table 0 PLACE_TABLE from to places part (putBack from to places part) starts ends (omega (arith, room)) same refl) w
+
+-- ---- the index of A's symbols
+
+-- it stands at the start of its buffer, where there is room for it
+module _ (from to : ℕ) (index : List ℕ) (starts : from ≡ 0) (ends : to ≡ SYMBOL_INDEX) (room : INDEX_BUFFER ≤ length index) where
+  pub names-room : Room SYMBOL_LIMIT (lent from to index)
+  names-room =
+      let e = ap length (part-lent 0 SYMBOL_INDEX from to index starts ends) ∙ part-long 0 SYMBOL_INDEX index (omega (arith, room)) in
+      record { few = omega arith; long = omega (arith, e) }
+
+  pub names-put : (o : ByteOrder) (A part : List ℕ) → length part ≡ length (lent from to index) → SymbolIndex o A part → SymbolIndex o A (namesPart (putBack from to index part))
+  names-put o A part same x = rw (put-table 0 SYMBOL_INDEX from to index part (putBack from to index part) starts ends (omega (arith, room)) same refl) x
 
 -- ---- the late step
 

@@ -7,7 +7,9 @@ ghost use Prim.Native.Nat.{_≤_};
 ghost use lib.ListN.{length};
 ghost use Rattle.base_scope.specs.Limits.{FILE_LIMIT, overLimits};
 ghost use Rattle.base_answers.specs.Answered.{Answered};
-ghost use Rattle.merge_buffers.specs.Buffers.{BLOCK_BUFFER, PLACE_BUFFER, STEP_BUFFER, blocksPart, placesPart, lateStepPart, BuffersHeld};
+ghost use Rattle.elf_index.specs.Index.{SymbolIndex};
+ghost use Rattle.elf_check.specs.View.{Viewed};
+ghost use Rattle.merge_buffers.specs.Buffers.{BLOCK_BUFFER, PLACE_BUFFER, STEP_BUFFER, INDEX_BUFFER, blocksPart, placesPart, lateStepPart, namesPart, BuffersHeld};
 ghost use Rattle.merge_inputs.specs.Taken.{Took, InputsRead};
 ghost use Rattle.merge_line_up.specs.Answer.{LinesUp};
 ghost use Rattle.merge_sections.specs.Stages.{StageRead, Movable, Searchable, Searched};
@@ -170,7 +172,7 @@ fn merge_symbols<'a>(
 ) -> Outcome
     requires { ⌜ StageRead (now compiled) (now assembled) (now file) stage (blocksPart (now table)) (placesPart (now places))
         × Movable (now compiled) (now file) stage (heldPlaces (now file) (now places)) (lateStepPart (now steps)) × PathHeld (now path) manner
-        × BuffersHeld (now table) (now places) (now steps) (now index) ⌝ }
+        × BuffersHeld (now table) (now places) (now steps) (now index) × SymbolIndex (stage .inputs .order) (now assembled) (namesPart (now index)) ⌝ }
     ensures { λ r. ⌜ Answered (symbolsAnswer (stage .inputs .order) (now (compiled .entry)) (now (assembled .entry)) (heldPlaces (now (file .entry)) (now (places .entry))) (now (file .entry)) (now (path .entry)) flag (manner .mode) (length (now (out .entry)))) r (now (out .entry)) (now (out .exit)) ⌝ }
 {
     match symbols_stage::merge_symbols(
@@ -216,10 +218,10 @@ fn search_late(
         × (STEP_BUFFER ≤ length (now steps)) ⌝ }
     ensures { λ r. ⌜ Searched (now (compiled .entry)) (now (file .entry)) stage (heldPlaces (now (file .entry)) (now (places .entry))) r (lateStepPart (now (steps .exit))) ⌝ }
 {
-    let blocks = merge_buffers::part(table, 0, base_scope::BLOCK_TABLE);
-    let lines = merge_buffers::part(places, 0, base_scope::PLACE_TABLE);
-    let from = merge_buffers::bound(0);
-    let to = merge_buffers::bound(merge_buffers::USED_AT);
+    let blocks = base_buffers::part(table, 0, base_scope::BLOCK_TABLE);
+    let lines = base_buffers::part(places, 0, base_scope::PLACE_TABLE);
+    let from = base_buffers::bound(0);
+    let to = base_buffers::bound(merge_buffers::USED_AT);
     merge_sections::late_fault(compiled, file, blocks, lines, stage, &mut steps[from..to])
 }
 
@@ -239,7 +241,7 @@ fn merge_late<'a>(
     index: &mut [u8],
 ) -> Outcome
     requires { ⌜ StageRead (now compiled) (now assembled) (now file) stage (blocksPart (now table)) (placesPart (now places)) × PathHeld (now path) manner
-        × BuffersHeld (now table) (now places) (now steps) (now index) ⌝ }
+        × BuffersHeld (now table) (now places) (now steps) (now index) × SymbolIndex (stage .inputs .order) (now assembled) (namesPart (now index)) ⌝ }
     ensures { λ r. ⌜ Answered (lateAnswer (stage .inputs .order) (now (compiled .entry)) (now (assembled .entry)) (heldPlaces (now (file .entry)) (now (places .entry))) (now (file .entry)) (now (path .entry)) flag (manner .mode) (length (now (out .entry)))) r (now (out .entry)) (now (out .exit)) ⌝ }
 {
     match search_late(compiled, file, stage, table, places, steps) {
@@ -265,7 +267,20 @@ fn merge_late<'a>(
     }
 }
 
-// The line-up, 11 to 13.
+// Indexes A's symbols by their names, at the start of the index.
+fn index_names(assembled: &[u8], inputs: Inputs, index: &mut [u8])
+    requires { ⌜ Viewed (inputs .order) (now assembled) (inputs .assembled) × (INDEX_BUFFER ≤ length (now index)) ⌝ }
+    ensures { λ _. ⌜ SymbolIndex (inputs .order) (now (assembled .entry)) (namesPart (now (index .exit))) ⌝ }
+{
+    let order = inputs.order;
+    let source = inputs.assembled;
+    let symbols = source.symbols;
+    let from = base_buffers::bound(0);
+    let to = base_buffers::bound(base_scope::SYMBOL_INDEX);
+    elf_index::index_symbols(order, assembled, symbols, &mut index[from..to]);
+}
+
+// The line-up, 11 to 13, by the index of A's symbols.
 fn line_up(
     compiled: &[u8],
     assembled: &[u8],
@@ -273,17 +288,19 @@ fn line_up(
     inputs: Inputs,
     table: &[u8],
     places: &[u8],
+    index: &[u8],
 ) -> LinedUp
     requires { ⌜ InputsRead (now compiled) (now assembled) (now file) inputs (blocksPart (now table)) (placesPart (now places)) × (BLOCK_BUFFER ≤ length (now table))
-        × (PLACE_BUFFER ≤ length (now places)) ⌝ }
+        × (PLACE_BUFFER ≤ length (now places)) × (INDEX_BUFFER ≤ length (now index)) × SymbolIndex (inputs .order) (now assembled) (namesPart (now index)) ⌝ }
     ensures { λ r. ⌜ LinesUp (inputs .order) (now (compiled .entry)) (now (assembled .entry)) (heldPlaces (now (file .entry)) (now (places .entry))) (now (file .entry)) r ⌝ }
 {
-    let blocks = merge_buffers::part(table, 0, base_scope::BLOCK_TABLE);
-    let lines = merge_buffers::part(places, 0, base_scope::PLACE_TABLE);
-    merge_line_up::line_up(compiled, assembled, file, blocks, lines, inputs)
+    let blocks = base_buffers::part(table, 0, base_scope::BLOCK_TABLE);
+    let lines = base_buffers::part(places, 0, base_scope::PLACE_TABLE);
+    let names = base_buffers::part(index, 0, base_scope::SYMBOL_INDEX);
+    merge_line_up::line_up(compiled, assembled, file, blocks, lines, inputs, names)
 }
 
-// 11 to 13; then the late step.
+// The index of A's symbols, which also the symbols are read by; 11 to 13; then the late step.
 fn merge_stages<'a>(
     compiled: &'a [u8],
     assembled: &'a [u8],
@@ -302,7 +319,8 @@ fn merge_stages<'a>(
         × BuffersHeld (now table) (now places) (now steps) (now index) ⌝ }
     ensures { λ r. ⌜ Answered (stagesAnswer (inputs .order) (now (compiled .entry)) (now (assembled .entry)) (heldPlaces (now (file .entry)) (now (places .entry))) (now (file .entry)) (now (path .entry)) flag (manner .mode) (length (now (out .entry)))) r (now (out .entry)) (now (out .exit)) ⌝ }
 {
-    match line_up(compiled, assembled, file, inputs, table, places) {
+    index_names(assembled, inputs, index);
+    match line_up(compiled, assembled, file, inputs, table, places, index) {
         LinedUp::Lined(step) => {
             let stage = Stage { inputs, step };
             merge_late(
@@ -385,16 +403,9 @@ fn take_inputs(
     requires { ⌜ (length (now file) ≤ FILE_LIMIT) × (BLOCK_BUFFER ≤ length (now table)) × (PLACE_BUFFER ≤ length (now places)) ⌝ }
     ensures { λ r. ⌜ Took (now (compiled .entry)) (now (assembled .entry)) (now (file .entry)) r (blocksPart (now (table .exit))) (placesPart (now (places .exit))) ⌝ }
 {
-    let from = merge_buffers::bound(0);
-    let blocks_end = merge_buffers::bound(merge_buffers::ROWS_AT);
-    let places_end = merge_buffers::bound(merge_buffers::HOLDERS_AT);
-    merge_inputs::take_inputs(
-        compiled,
-        assembled,
-        file,
-        &mut table[from..blocks_end],
-        &mut places[from..places_end],
-    )
+    let from = base_buffers::bound(0);
+    let to = base_buffers::bound(merge_buffers::HOLDERS_AT);
+    merge_inputs::take_inputs(compiled, assembled, file, table, &mut places[from..to])
 }
 
 // Refusal 1: the bounds, then the path.

@@ -3,7 +3,8 @@
 ghost use mathlib.Core.Path.{_≡_};
 ghost use Prim.Native.Nat.{_≤_};
 ghost use lib.ListN.{length};
-ghost use Rattle.base_scope.specs.Limits.{FILE_LIMIT, BLOCK_TABLE, PLACE_TABLE};
+ghost use Rattle.base_buffers.specs.Parts.{partAt};
+ghost use Rattle.base_scope.specs.Limits.{FILE_LIMIT, BLOCK_TABLE, PLACE_TABLE, OPEN_TABLE};
 ghost use Rattle.elf_readers.specs.Readers.{orderOf};
 ghost use Rattle.elf_check.specs.Sound.{Sound};
 ghost use Rattle.merge_inputs.specs.Taken.{inputsOf, Took};
@@ -36,7 +37,7 @@ pub fn inputs_of(compiled: &[u8], assembled: &[u8], blocks: usize) -> Inputs
     }
 }
 
-// Takes in all of them: the number of blocks, or the refusal. The tables need no particular contents before; after a refusal theirs are of no account.
+// Takes in all of them: the number of blocks, or the refusal. The table of blocks stands at the front of its buffer. The tables need no particular contents before; after a refusal theirs are of no account.
 pub fn take_inputs(
     compiled: &[u8],
     assembled: &[u8],
@@ -44,8 +45,8 @@ pub fn take_inputs(
     table: &mut [u8],
     places: &mut [u8],
 ) -> Opened
-    requires { ⌜ (length (now file) ≤ FILE_LIMIT) × (BLOCK_TABLE ≤ length (now table)) × (PLACE_TABLE ≤ length (now places)) ⌝ }
-    ensures { λ r. ⌜ Took (now (compiled .entry)) (now (assembled .entry)) (now (file .entry)) r (now (table .exit)) (now (places .exit)) ⌝ }
+    requires { ⌜ (length (now file) ≤ FILE_LIMIT) × (OPEN_TABLE ≤ length (now table)) × (PLACE_TABLE ≤ length (now places)) ⌝ }
+    ensures { λ r. ⌜ Took (now (compiled .entry)) (now (assembled .entry)) (now (file .entry)) r (partAt 0 BLOCK_TABLE (now (table .exit))) (now (places .exit)) ⌝ }
 {
     let opened = open_inputs::open(compiled, file, table, places);
     if let Opened::Blocks(_) = opened {

@@ -1,17 +1,13 @@
--- The laws of labels: the turns of the loop that compares a name with a label and then a suffix, what is read of a label's symbol, and the search for the first
--- line that is mislabelled. Assumes nothing.
+-- The laws of labels: what is read of a label's symbol, and the search for the first line that is mislabelled. Assumes nothing.
 use Prim.Native.Nat.{ℕ, _+_, _≤_, _<_}
 use mathlib.Core.Path.{_≡_, refl, sym, ap, _∙_}
 use mathlib.Core.Bool.{true, false, not, _&&_}
-use mathlib.Core.List.{List, _∷_, _++_}
-use lib.ListN.{length, drop, getD, drop-of-length-le}
+use mathlib.Core.List.{List, _++_}
+use lib.ListN.{length}
 use lib.Dec.{eqb, leb}
 use borrow.Author.Tests.{lt-ltb, le-ltb, eq-eqb, ne-eqb}
 use Rattle.base_lists.specs.Ranges.{first}
-use Rattle.base_lists.specs.Strings.{same, nameAt}
 use Rattle.base_lists.proofs.Ranges.{by-test, first-here, first-end}
-use Rattle.base_lists.proofs.Windows.{drop-next}
-use Rattle.base_lists.proofs.Strings.{name-cons, name-nil}
 use Rattle.base_fields.specs.declared.ByteOrder.{ByteOrder}
 use Rattle.elf_records.specs.declared.symbol.SymbolEntry.{SymbolEntry}
 use Rattle.base_scope.specs.Codes.{LATE-RODATA, lineCode, lineBlock}
@@ -23,28 +19,6 @@ use Rattle.blocks_places.specs.Lines.{lineCount, spanLabel, spanSize}
 use Rattle.blocks_places.specs.Places.{Place, taken, place}
 use Rattle.merge_labels.specs.declared.Label.{Label}
 use Rattle.merge_labels.specs.Labels.{labelOf, isAt, isLined, isMislabelled, mislabelledAt, labelFault, lateLabel, lateStart, lateLined}
-
--- ---- a name that is a label and a suffix
-
-module _ (t l s : List ℕ) (j i : ℕ) where
-  rest-step : i < length l → drop i l ++ s ≡ getD l i 0 ∷ (drop (i + 1) l ++ s)
-  rest-step h = rw (drop-next l i 0 h)
-
-  pub joined-next : j < length t → (getD t j 0 ≡ 0 → ⊥) → i < length l → getD t j 0 ≡ getD l i 0
-      → same (nameAt t j) (drop i l ++ s) ≡ same (nameAt t (j + 1)) (drop (i + 1) l ++ s)
-  unfolding same
-  joined-next h z k e = rw (name-cons t j h z, rest-step k, eq-eqb _ _ e)
-
-  pub joined-not : j < length t → (getD t j 0 ≡ 0 → ⊥) → i < length l → (getD t j 0 ≡ getD l i 0 → ⊥) → same (nameAt t j) (drop i l ++ s) ≡ false
-  unfolding same
-  joined-not h z k d = rw (name-cons t j h z, rest-step k, ne-eqb _ _ d)
-
-  pub joined-short : getD t j 0 ≡ 0 → i < length l → same (nameAt t j) (drop i l ++ s) ≡ false
-  unfolding same
-  joined-short z k = rw (name-nil t j z, rest-step k)
-
-  pub joined-end : length l ≤ i → same (nameAt t j) (drop i l ++ s) ≡ same (nameAt t j) s
-  joined-end h = rw (drop-of-length-le l h)
 
 -- ---- a label's symbol
 

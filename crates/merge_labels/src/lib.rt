@@ -1,13 +1,12 @@
-// Refusals 12 and 13: whether the labels of the spans, and those of the late span, stand where document 01 has them. Each function equals its definition in specs/. A label
-// and its suffix are compared with a symbol's name in two parts, as lists: a label may hold a zero byte, and then no symbol has its name.
+// Refusals 12 and 13: whether the labels of the spans, and those of the late span, stand where document 01 has them. Each function equals its definition in specs/. The symbol
+// of a label and its suffix is found by an index of A's symbols by name (the crate elf_index).
 ghost use mathlib.Core.Path.{_≡_};
 ghost use mathlib.Core.Bool.{true};
 ghost use mathlib.Core.List.{_++_};
-ghost use Prim.Native.Nat.{_+_, _≤_, _<_};
-ghost use lib.ListN.{length};
-ghost use Rattle.base_lists.specs.Strings.{same, nameAt};
+ghost use Prim.Native.Nat.{_+_, _<_};
 ghost use Rattle.base_scope.specs.Text.{text};
-ghost use Rattle.elf_symbols.specs.Symbols.{symbolCount, isSymbolNamed, symbolNamed, Table, Entries};
+ghost use Rattle.elf_symbols.specs.Symbols.{Table};
+ghost use Rattle.elf_index.specs.Index.{SymbolIndex};
 ghost use Rattle.elf_check.specs.View.{Viewed};
 ghost use Rattle.blocks_file.specs.Blocks.{blockCount};
 ghost use Rattle.blocks_places.specs.Lines.{lineCount};
@@ -26,91 +25,19 @@ pub struct Label {
     pub value: usize,
 }
 
-// Whether the name at `at` is a label followed by a suffix, byte by byte. It reads no further than the first byte that differs.
-fn joined_from(t: &[u8], at: usize, label: &[u8], suffix: &[u8]) -> bool
-    ensures { λ r. ⌜ r ≡ same (nameAt (now (t .entry)) at) (now (label .entry) ++ now (suffix .entry)) ⌝ }
-{
-    let mut i: usize = 0;
-    let mut j = at;
-    while i < label.len() {
-        if j >= t.len() {
-            return false;
-        }
-        if t[j] == 0 {
-            return false;
-        }
-        if t[j] != label[i] {
-            return false;
-        }
-        i += 1;
-        j += 1;
-    }
-    base_names::name_is(t, j, suffix)
-}
-
-// Whether the name at `at` is a label followed by a suffix.
-fn is_joined_name(t: &[u8], at: usize, label: &[u8], suffix: &[u8]) -> bool
-    ensures { λ r. ⌜ r ≡ same (nameAt (now (t .entry)) at) (now (label .entry) ++ now (suffix .entry)) ⌝ }
-{
-    if base_names::ends_apart(t, at, label) {
-        return false;
-    }
-    joined_from(t, at, label, suffix)
-}
-
-// Whether symbol k has the name of a label and a suffix.
-fn is_joined_symbol(
-    order: ByteOrder,
-    assembled: &[u8],
-    at: usize,
-    strings: &[u8],
-    label: &[u8],
-    suffix: &[u8],
-    k: usize,
-) -> bool
-    requires { ⌜ Entries order (now assembled) at (now strings) × (k < symbolCount order (now assembled)) ⌝ }
-    ensures { λ r. ⌜ r ≡ isSymbolNamed order (now (assembled .entry)) (now (label .entry) ++ now (suffix .entry)) k ⌝ }
-{
-    let s = elf_symbols::symbol_at(order, assembled, at, k);
-    is_joined_name(strings, s.st_name as usize, label, suffix)
-}
-
-// The first symbol of a label and a suffix, or the symbol count.
-fn joined_symbol(
-    order: ByteOrder,
-    assembled: &[u8],
-    table: SymbolTable,
-    label: &[u8],
-    suffix: &[u8],
-) -> usize
-    requires { ⌜ Table order (now assembled) table ⌝ }
-    ensures { λ r. ⌜ r ≡ symbolNamed order (now (assembled .entry)) (now (label .entry) ++ now (suffix .entry)) ⌝ }
-{
-    let strings = elf_symbols::strings_of(assembled, table);
-    let at = table.at;
-    let n = table.count;
-    let mut k: usize = 0;
-    while k < n {
-        if is_joined_symbol(order, assembled, at, strings, label, suffix, k) {
-            return k;
-        }
-        k += 1;
-    }
-    n
-}
-
 // The first symbol of a label and a suffix, by what is asked of it.
 pub fn label_of(
     order: ByteOrder,
     assembled: &[u8],
     table: SymbolTable,
+    index: &[u8],
     label: &[u8],
     suffix: &[u8],
 ) -> Label
-    requires { ⌜ Table order (now assembled) table ⌝ }
+    requires { ⌜ Table order (now assembled) table × SymbolIndex order (now assembled) (now index) ⌝ }
     ensures { λ r. ⌜ (r ≡ labelOf order (now (assembled .entry)) (now (label .entry) ++ now (suffix .entry))) × (r .value < 4294967296) ⌝ }
 {
-    let k = joined_symbol(order, assembled, table, label, suffix);
+    let k = elf_index::symbol_joined(order, assembled, table, index, label, suffix);
     let n = table.count;
     if k < n {
         let at = table.at;
@@ -133,15 +60,16 @@ fn is_label_at(
     order: ByteOrder,
     assembled: &[u8],
     table: SymbolTable,
+    index: &[u8],
     label: &[u8],
     suffix: &[u8],
     section: usize,
     value: usize,
 ) -> bool
-    requires { ⌜ Table order (now assembled) table ⌝ }
+    requires { ⌜ Table order (now assembled) table × SymbolIndex order (now assembled) (now index) ⌝ }
     ensures { λ r. ⌜ r ≡ isAt order (now (assembled .entry)) (now (label .entry) ++ now (suffix .entry)) section value ⌝ }
 {
-    let l = label_of(order, assembled, table, label, suffix);
+    let l = label_of(order, assembled, table, index, label, suffix);
     if l.found {
         return base_scope::both(l.section == section, l.value == value);
     }
@@ -153,30 +81,42 @@ fn is_lined(
     order: ByteOrder,
     assembled: &[u8],
     view: View,
+    index: &[u8],
     file: &[u8],
     table: &[u8],
     places: &[u8],
     j: usize,
 ) -> bool
     requires { ⌜ Viewed order (now assembled) view × Laid (placesIn (now places) (lineCount (now file))) (now file) (now table) (now places)
-        × (j < lineCount (now file)) × (taken (placesIn (now places) (lineCount (now file))) j ≡ true) ⌝ }
+        × (j < lineCount (now file)) × (taken (placesIn (now places) (lineCount (now file))) j ≡ true)
+        × SymbolIndex order (now assembled) (now index) ⌝ }
     ensures { λ r. ⌜ r ≡ isLined order (now (assembled .entry)) (placesIn (now (places .entry)) (lineCount (now (file .entry)))) (now (file .entry)) j ⌝ }
 {
     let section = view.section(base_scope::line_code(j));
     let symbols = view.symbols;
     let label = blocks_places::span_label(file, table, j);
     let place = blocks_places::place_of(places, j);
-    let end = place + blocks_places::span_size(file, table, j);
+    let span_end = place + blocks_places::span_size(file, table, j);
     if is_label_at(
         order,
         assembled,
         symbols,
+        index,
         label,
         b"_asm_start",
         section,
         place,
     ) {
-        return is_label_at(order, assembled, symbols, label, b"_asm_end", section, end);
+        return is_label_at(
+            order,
+            assembled,
+            symbols,
+            index,
+            label,
+            b"_asm_end",
+            section,
+            span_end,
+        );
     }
     false
 }
@@ -186,17 +126,18 @@ fn is_mislabelled(
     order: ByteOrder,
     assembled: &[u8],
     view: View,
+    index: &[u8],
     file: &[u8],
     table: &[u8],
     places: &[u8],
     j: usize,
 ) -> bool
     requires { ⌜ Viewed order (now assembled) view × Laid (placesIn (now places) (lineCount (now file))) (now file) (now table) (now places)
-        × (j < lineCount (now file)) ⌝ }
+        × (j < lineCount (now file)) × SymbolIndex order (now assembled) (now index) ⌝ }
     ensures { λ r. ⌜ r ≡ isMislabelled order (now (assembled .entry)) (placesIn (now (places .entry)) (lineCount (now (file .entry)))) (now (file .entry)) j ⌝ }
 {
     if blocks_places::is_taken(places, j) {
-        let lined = is_lined(order, assembled, view, file, table, places, j);
+        let lined = is_lined(order, assembled, view, index, file, table, places, j);
         return !lined;
     }
     false
@@ -207,18 +148,19 @@ pub fn label_fault(
     order: ByteOrder,
     assembled: &[u8],
     view: View,
+    index: &[u8],
     file: &[u8],
     table: &[u8],
     places: &[u8],
     blocks: usize,
 ) -> Finding
     requires { ⌜ Viewed order (now assembled) view × Laid (placesIn (now places) (lineCount (now file))) (now file) (now table) (now places)
-        × (blocks ≡ blockCount (now file)) ⌝ }
+        × (blocks ≡ blockCount (now file)) × SymbolIndex order (now assembled) (now index) ⌝ }
     ensures { λ r. ⌜ r ≡ labelFault order (now (assembled .entry)) (placesIn (now (places .entry)) (lineCount (now (file .entry)))) (now (file .entry)) ⌝ }
 {
     let mut j: usize = 0;
     while j < base_scope::LINES * blocks {
-        if is_mislabelled(order, assembled, view, file, table, places, j) {
+        if is_mislabelled(order, assembled, view, index, file, table, places, j) {
             return Finding::At(base_scope::line_block(j));
         }
         j += 1;
@@ -231,10 +173,12 @@ pub fn is_late_lined(
     order: ByteOrder,
     assembled: &[u8],
     view: View,
+    index: &[u8],
     start: Label,
     size: usize,
 ) -> bool
-    requires { ⌜ Viewed order (now assembled) view × (start ≡ labelOf order (now assembled) (lateLabel (text "_start"))) × (start .value + size < 18446744073709551616) ⌝ }
+    requires { ⌜ Viewed order (now assembled) view × (start ≡ labelOf order (now assembled) (lateLabel (text "_start"))) × (start .value + size < 18446744073709551616)
+        × SymbolIndex order (now assembled) (now index) ⌝ }
     ensures { λ r. ⌜ r ≡ lateLined order (now (assembled .entry)) size ⌝ }
 {
     let section = view.section(base_scope::LATE_RODATA);
@@ -247,6 +191,7 @@ pub fn is_late_lined(
                 order,
                 assembled,
                 symbols,
+                index,
                 b"_asmpp_late_rodata",
                 b"_end",
                 section,

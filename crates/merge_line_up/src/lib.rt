@@ -4,6 +4,7 @@ ghost use mathlib.Core.Path.{_≡_};
 ghost use Prim.Native.Nat.{_+_, _*_, _<_, _≤_};
 ghost use Rattle.base_scope.specs.Text.{text};
 ghost use Rattle.base_scope.specs.Limits.{NUMBER_LIMIT, BLOCK_LIMIT, DUMMY_LIMIT};
+ghost use Rattle.elf_index.specs.Index.{SymbolIndex};
 ghost use Rattle.elf_check.specs.View.{Viewed};
 ghost use Rattle.blocks_file.specs.Blocks.{blockCount};
 ghost use Rattle.blocks_places.specs.Lines.{lineCount};
@@ -31,15 +32,16 @@ fn late_label_fault(
     order: ByteOrder,
     assembled: &[u8],
     view: View,
+    index: &[u8],
     start: Label,
     size: usize,
 ) -> Finding
     requires { ⌜ Viewed order (now assembled) view × (start ≡ labelOf order (now assembled) (lateLabel (text "_start"))) × (start .value < 4294967296)
-        × (size ≤ (4 * DUMMY_LIMIT + NUMBER_LIMIT) * BLOCK_LIMIT) ⌝ }
+        × (size ≤ (4 * DUMMY_LIMIT + NUMBER_LIMIT) * BLOCK_LIMIT) × SymbolIndex order (now assembled) (now index) ⌝ }
     ensures { λ r. ⌜ r ≡ lateLabelFault order (now (assembled .entry)) size ⌝ }
 {
     if 0 < size {
-        let lined = merge_labels::is_late_lined(order, assembled, view, start, size);
+        let lined = merge_labels::is_late_lined(order, assembled, view, index, start, size);
         return base_scope::expected(lined, 0, Finding::Clear);
     }
     Finding::Clear
@@ -50,6 +52,7 @@ fn labels_verdict(
     order: ByteOrder,
     assembled: &[u8],
     view: View,
+    index: &[u8],
     file: &[u8],
     table: &[u8],
     places: &[u8],
@@ -58,17 +61,27 @@ fn labels_verdict(
     size: usize,
 ) -> Verdict
     requires { ⌜ Viewed order (now assembled) view × Laid (placesIn (now places) (lineCount (now file))) (now file) (now table) (now places) × (blocks ≡ blockCount (now file))
-        × (start ≡ labelOf order (now assembled) (lateLabel (text "_start"))) × (start .value < 4294967296) × (size ≤ (4 * DUMMY_LIMIT + NUMBER_LIMIT) * BLOCK_LIMIT) ⌝ }
+        × (start ≡ labelOf order (now assembled) (lateLabel (text "_start"))) × (start .value < 4294967296) × (size ≤ (4 * DUMMY_LIMIT + NUMBER_LIMIT) * BLOCK_LIMIT)
+        × SymbolIndex order (now assembled) (now index) ⌝ }
     ensures { λ r. ⌜ r ≡ labelsVerdict order (now (assembled .entry)) (placesIn (now (places .entry)) (lineCount (now (file .entry)))) (now (file .entry)) size ⌝ }
 {
-    let block = merge_labels::label_fault(order, assembled, view, file, table, places, blocks);
+    let block = merge_labels::label_fault(
+        order,
+        assembled,
+        view,
+        index,
+        file,
+        table,
+        places,
+        blocks,
+    );
     let labels = base_answers::finding_verdict(
         base_scope::BLOCK_LABELS,
         base_answers::ASSEMBLED,
         block,
     );
     if let Verdict::Passed = labels {
-        let late = late_label_fault(order, assembled, view, start, size);
+        let late = late_label_fault(order, assembled, view, index, start, size);
         return base_answers::finding_verdict(
             base_scope::LATE_LABELS,
             base_answers::ASSEMBLED,
@@ -78,7 +91,7 @@ fn labels_verdict(
     labels
 }
 
-// Refusals 11, 12 and 13, in this order.
+// Refusals 11, 12 and 13, in this order. `index` is what `elf_index::index_symbols` made of the assembled object.
 pub fn line_up(
     compiled: &[u8],
     assembled: &[u8],
@@ -86,8 +99,9 @@ pub fn line_up(
     table: &[u8],
     places: &[u8],
     inputs: Inputs,
+    index: &[u8],
 ) -> LinedUp
-    requires { ⌜ InputsRead (now compiled) (now assembled) (now file) inputs (now table) (now places) ⌝ }
+    requires { ⌜ InputsRead (now compiled) (now assembled) (now file) inputs (now table) (now places) × SymbolIndex (inputs .order) (now assembled) (now index) ⌝ }
     ensures { λ r. ⌜ LinesUp (inputs .order) (now (compiled .entry)) (now (assembled .entry)) (placesIn (now (places .entry)) (lineCount (now (file .entry)))) (now (file .entry)) r ⌝ }
 {
     let blocks = inputs.blocks;
@@ -110,11 +124,19 @@ pub fn line_up(
     let order = inputs.order;
     let view = inputs.assembled;
     let symbols = view.symbols;
-    let start = merge_labels::label_of(order, assembled, symbols, b"_asmpp_late_rodata", b"_start");
+    let start = merge_labels::label_of(
+        order,
+        assembled,
+        symbols,
+        index,
+        b"_asmpp_late_rodata",
+        b"_start",
+    );
     let labels = labels_verdict(
         order,
         assembled,
         view,
+        index,
         file,
         table,
         places,

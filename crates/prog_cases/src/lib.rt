@@ -12,8 +12,8 @@ pub fn room() -> [u8; ROOM] {
     [0u8; ROOM]
 }
 
-fn blocks_room() -> [u8; base_scope::BLOCK_TABLE] {
-    [0u8; base_scope::BLOCK_TABLE]
+fn blocks_room() -> [u8; base_scope::OPEN_TABLE] {
+    [0u8; base_scope::OPEN_TABLE]
 }
 
 fn places_room() -> [u8; base_scope::PLACE_TABLE] {

@@ -1,4 +1,3 @@
-pub mod Names
 pub mod Marks
 pub mod Groups
 pub mod Words

@@ -19,7 +19,7 @@ use Rattle.base_fields.specs.Numbers.{encoded}
 use Rattle.base_scope.specs.Limits.{SYMBOL_LIMIT}
 use Rattle.base_index.specs.Index.{bucketOf, nextIn, headIn, inBucket, Indexed}
 use Rattle.base_index.proofs.Table.{withWord, word-long, word-same, word-other}
-use Rattle.base_index.proofs.Index.{Implies, in-bucket, bucket-in}
+use Rattle.base_index.proofs.Index.{bucket-low, Implies, in-bucket, bucket-in}
 use Rattle.elf_symbols.specs.Symbols.{symbolCount, symbolName, isSymbolNamed}
 use Rattle.symbols_glabels.specs.Words.{markIn, newWord, Marked, Holds, isItem, Visited, Uniform}
 
@@ -97,7 +97,7 @@ module _ (put k n : ℕ) (before : List ℕ) where
 -- it stands at item k, or behind the last one: the words of the items before it are done, those from it on have stayed
 pub record Walked (p : ℕ → Bool) (put h : ℕ) (T : List ℕ) (n : ℕ) (before after : List ℕ) (k : ℕ) : Type 0 where
   pub high : k ≤ n
-  pub here : k < n → inBucket T (bucketOf h) k ≡ true
+  pub here : k < n → inBucket n T (bucketOf n h) k ≡ true
   pub long : length after ≡ length before
   pub done : (j : ℕ) → j < k → markIn after j ≡ cond (p j) (newWord put (markIn before j)) (markIn before j)
   pub rest : (j : ℕ) → k ≤ j → j < n → markIn after j ≡ markIn before j
@@ -125,13 +125,13 @@ module _ (p : ℕ → Bool) (put h : ℕ) (T : List ℕ) (n capacity : ℕ) (bef
       }
 
   module _ (implies : Implies p h T n) (x : Indexed capacity T n) where
-    other-bucket : (k : ℕ) → k < n → inBucket T (bucketOf h) k ≡ false → p k ≡ false
-    other-bucket k l f = by-test (p k) (λ t. both (in-bucket T (bucketOf h) k (ap bucketOf (implies k l t))) f) (λ g. g)
+    other-bucket : (k : ℕ) → k < n → inBucket n T (bucketOf n h) k ≡ false → p k ≡ false
+    other-bucket k l f = by-test (p k) (λ t. both (in-bucket n T (bucketOf n h) k (ap (bucketOf n) (implies k l t))) f) (λ g. g)
 
-    pub walked-none : Walked p put h T n before before (headIn capacity T (bucketOf h))
+    pub walked-none : Walked p put h T n before before (headIn capacity T (bucketOf n h))
     walked-none =
-        let e : headIn capacity T (bucketOf h) ≡ first (inBucket T (bucketOf h)) 0 n = x .head (bucketOf h) (omega arith) in
-        let r : IsFirst (inBucket T (bucketOf h)) 0 n (headIn capacity T (bucketOf h)) = rw e (first-is (inBucket T (bucketOf h)) 0 n (omega arith)) in
+        let e : headIn capacity T (bucketOf n h) ≡ first (inBucket n T (bucketOf n h)) 0 n = x .head (bucketOf n h) (bucket-low n h) in
+        let r : IsFirst (inBucket n T (bucketOf n h)) 0 n (headIn capacity T (bucketOf n h)) = rw e (first-is (inBucket n T (bucketOf n h)) 0 n (omega arith)) in
         record {
           high = r .high;
           here = r .here;
@@ -143,9 +143,9 @@ module _ (p : ℕ → Bool) (put h : ℕ) (T : List ℕ) (n capacity : ℕ) (bef
     pub walked-next : (m after : List ℕ) (k : ℕ) → k < n → Walked p put h T n before m k → Marked (isItem p k) put n m after → Walked p put h T n before after (nextIn capacity T k)
     unfolding isItem
     walked-next m after k l w a =
-        let b : bucketOf _ ≡ bucketOf h = bucket-in T (bucketOf h) k (w .here l) in
-        let e : nextIn capacity T k ≡ first (inBucket T (bucketOf h)) (k + 1) n = x .next k l ∙ ap (λ (c : ℕ). first (inBucket T c) (k + 1) n) b in
-        let r : IsFirst (inBucket T (bucketOf h)) (k + 1) n (nextIn capacity T k) = rw e (first-is (inBucket T (bucketOf h)) (k + 1) n (omega arith)) in
+        let b : bucketOf n _ ≡ bucketOf n h = bucket-in n T (bucketOf n h) k (w .here l) in
+        let e : nextIn capacity T k ≡ first (inBucket n T (bucketOf n h)) (k + 1) n = x .next k l ∙ ap (λ (c : ℕ). first (inBucket n T c) (k + 1) n) b in
+        let r : IsFirst (inBucket n T (bucketOf n h)) (k + 1) n (nextIn capacity T k) = rw e (first-is (inBucket n T (bucketOf n h)) (k + 1) n (omega arith)) in
         let stays : (j : ℕ) → j < n → j ≢ k → markIn after j ≡ markIn m j = λ j u d. a .words j u ∙ rw (ne-eqb k j (λ q. d (sym q))) in
         record {
           high = r .high;

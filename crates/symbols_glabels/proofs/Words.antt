@@ -18,6 +18,7 @@ use Rattle.base_fields.proofs.Numbers.{big-4}
 use Rattle.base_scope.specs.Codes.{TEXT, lineOf}
 use Rattle.elf_symbols.specs.declared.SymbolTable.{SymbolTable}
 use Rattle.elf_symbols.specs.Symbols.{symbolCount, symbolName, isSymbolNamed, Table}
+use Rattle.elf_index.specs.Index.{SymbolIndex}
 use Rattle.blocks_lines.specs.Keys.{KEY-GLABEL, isKeyLine, valueAt}
 use Rattle.blocks_file.specs.Blocks.{lineBehind, groupAt, blockAt, blockCount}
 use Rattle.blocks_places.specs.Lines.{lineCount, spanSize}
@@ -25,7 +26,7 @@ use Rattle.blocks_places.specs.Places.{Place, taken}
 use Rattle.blocks_places.specs.Table.{placesIn, Laid}
 use Rattle.blocks_items.specs.Items.{sized}
 use Rattle.blocks_glabels.specs.Glabels.{glabel, isGlabel, givesSize, pastSized, glabelSize}
-use Rattle.symbols_glabels.specs.Words.{sizeBefore, glabelWord, markIn, newWord, Marked, Holds, SymbolIndex, sizeBelow, GlabelsReady}
+use Rattle.symbols_glabels.specs.Words.{sizeBefore, glabelWord, markIn, newWord, Marked, Holds, sizeBelow, GlabelsReady}
 use Rattle.symbols_glabels.proofs.Marks.{marked-as, marked-none}
 
 -- ---- words that are zeroed

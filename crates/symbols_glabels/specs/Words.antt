@@ -11,11 +11,11 @@ use Rattle.base_lists.specs.Strings.{same}
 use Rattle.base_fields.specs.declared.ByteOrder.{ByteOrder}
 use Rattle.base_fields.specs.declared.ByteOrder.the-variants.{Big}
 use Rattle.base_fields.specs.Numbers.{number}
-use Rattle.base_index.specs.Index.{hashOf, hashIn, Indexed}
 use Rattle.base_scope.specs.Codes.{TEXT, lineOf}
 use Rattle.base_scope.specs.Limits.{SYMBOL_LIMIT}
 use Rattle.elf_symbols.specs.declared.SymbolTable.{SymbolTable}
 use Rattle.elf_symbols.specs.Symbols.{symbolCount, symbolName, Table}
+use Rattle.elf_index.specs.Index.{SymbolIndex}
 use Rattle.blocks_lines.specs.Keys.{KEY-GLABEL, valueAt}
 use Rattle.blocks_file.specs.Blocks.{groupSize, lineBehind}
 use Rattle.blocks_places.specs.Lines.{lineCount, spanSize}
@@ -48,12 +48,6 @@ pub record Marked (p : ℕ → Bool) (put n : ℕ) (before after : List ℕ) : T
 pub record Holds (word : ℕ → ℕ) (n : ℕ) (before after : List ℕ) : Type 0 where
   pub long : length after ≡ length before
   pub words : (k : ℕ) → k < n → markIn after k ≡ word k
-
--- ---- the symbols of an object by the hashes of their names
-
-pub record SymbolIndex (o : ByteOrder) (F index : List ℕ) : Type 0 where
-  pub indexed : Indexed SYMBOL_LIMIT index (symbolCount o F)
-  pub hashes : (k : ℕ) → k < symbolCount o F → hashIn index k ≡ hashOf (symbolName o F k)
 
 -- ---- a visit of a symbol in the walk through a bucket
 

@@ -1,59 +1,26 @@
 // What the glabels of a block file make of the assembled object's symbols (document 01, "Symbols": "A's glabels become type 2, with size if first in a .text block (last
-// block wins)"): a word for each symbol, which equals `glabelWord` of its name (specs/Words.antt); proofs/Words.antt reads the answers back from it. `index_symbols` makes
-// an index of the symbols by their names, `mark_glabels` the words: each glabel walks its bucket only, and no further than to a symbol of the name whose word stays.
+// block wins)"): a word for each symbol, which equals `glabelWord` of its name (specs/Words.antt); proofs/Words.antt reads the answers back from it. `mark_glabels`
+// makes the words over an index of the symbols by their names (the crate elf_index): each glabel walks its bucket only, and no further than to a symbol of the name whose word
+// stays.
 ghost use mathlib.Core.Path.{_≡_};
 ghost use mathlib.Core.Bool.{true};
 ghost use Prim.Native.Nat.{ℕ, _+_, _*_, _≤_, _<_};
 ghost use lib.ListN.{length};
 ghost use Rattle.base_lists.specs.Rows.{hasIndex};
-ghost use Rattle.base_lists.specs.Windows.{spliced};
-ghost use Rattle.base_fields.specs.declared.ByteOrder.the-variants.{Big};
-ghost use Rattle.base_fields.specs.Numbers.{encoded};
 ghost use Rattle.base_scope.specs.Codes.{TEXT, lineOf};
 ghost use Rattle.base_scope.specs.Limits.{NUMBER_LIMIT, SYMBOL_LIMIT};
-ghost use Rattle.base_index.specs.Index.{hashPlace, hashOf, Room};
+ghost use Rattle.base_index.specs.Index.{hashOf};
 ghost use Rattle.elf_symbols.specs.Symbols.{symbolCount, symbolName, isSymbolNamed, Table, Entries};
+ghost use Rattle.elf_index.specs.Index.{SymbolIndex};
 ghost use Rattle.blocks_lines.specs.Keys.{KEY-GLABEL, isKeyLine, valueAt};
 ghost use Rattle.blocks_file.specs.Blocks.{groupAt, blockAt, blockCount};
 ghost use Rattle.blocks_file.specs.Table.{Parsed};
 ghost use Rattle.blocks_places.specs.Lines.{lineCount, labelled, spanSize};
 ghost use Rattle.blocks_places.specs.Table.{placesIn};
 ghost use Rattle.blocks_glabels.specs.Glabels.{glabelCount, glabel, isGlabelAt, isGlabel, givesSize};
-ghost use Rattle.symbols_glabels.specs.Words.{glabelWord, markIn, newWord, Marked, Holds, SymbolIndex, Visited, Uniform, isInGroup, sizeBelow, GlabelsReady};
+ghost use Rattle.symbols_glabels.specs.Words.{glabelWord, markIn, newWord, Marked, Holds, Visited, Uniform, isInGroup, sizeBelow, GlabelsReady};
 use base_fields::ByteOrder;
 use elf_symbols::SymbolTable;
-
-// Puts the hash of symbol k's name.
-fn put_name(
-    order: ByteOrder,
-    assembled: &[u8],
-    at: usize,
-    strings: &[u8],
-    k: usize,
-    index: &mut [u8],
-)
-    requires { ⌜ Entries order (now assembled) at (now strings) × (k < symbolCount order (now assembled)) × (hashPlace k + 4 ≤ length (now index)) ⌝ }
-    ensures { λ _. ⌜ now (index .exit) ≡ spliced (now (index .entry)) (hashPlace k) (encoded Big 4 (hashOf (symbolName order (now (assembled .entry)) k))) ⌝ }
-{
-    let name = elf_symbols::symbol_name(order, assembled, at, strings, k);
-    base_index::put_hash(index, k, base_index::hash_of(name));
-}
-
-// Makes the index of the symbols by the hashes of their names.
-pub fn index_symbols(order: ByteOrder, assembled: &[u8], symbols: SymbolTable, index: &mut [u8])
-    requires { ⌜ Table order (now assembled) symbols × Room SYMBOL_LIMIT (now index) ⌝ }
-    ensures { λ _. ⌜ SymbolIndex order (now (assembled .entry)) (now (index .exit)) ⌝ }
-{
-    let strings = elf_symbols::strings_of(assembled, symbols);
-    let at = symbols.at;
-    let n = symbols.count;
-    let mut k: usize = 0;
-    while k < n {
-        put_name(order, assembled, at, strings, k, index);
-        k += 1;
-    }
-    base_index::build(index, base_scope::SYMBOL_LIMIT, n);
-}
 
 // Whether symbol k has a name, of which the hash is in hand: names are read only where the hashes agree.
 fn is_named(
@@ -142,7 +109,7 @@ fn mark_named(
     let at = symbols.at;
     let n = symbols.count;
     let hash = base_index::hash_of(name);
-    let mut k = base_index::head_of(index, base_scope::SYMBOL_LIMIT, hash);
+    let mut k = base_index::head_of(index, base_scope::SYMBOL_LIMIT, n, hash);
     while k < n {
         if mark_symbol(
             order,
@@ -339,7 +306,7 @@ fn clear_marks(n: usize, marks: &mut [u8])
     base_buffers::zero(&mut marks[0..end]);
 }
 
-// The words of all symbols. `index` is what `index_symbols` made of them, `blocks` is how many blocks the file has; `marks` needs no particular contents.
+// The words of all symbols. `index` is what `elf_index::index_symbols` made of them, `blocks` is how many blocks the file has; `marks` needs no particular contents.
 pub fn mark_glabels(
     order: ByteOrder,
     assembled: &[u8],

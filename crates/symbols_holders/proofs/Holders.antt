@@ -52,7 +52,7 @@ list-few T L n m name rows list =
     omega (arith, rows .few, list-long (candidatesIn T n name) L m list, ap length (listed-names T n name (λ i. [])), listed-few T n)
 
 -- S are the candidates in hand, and p is a position of their list of m
-module _ (o : ByteOrder) (C A U : List ℕ) (s : Sources) (T L I : List ℕ) (p : ℕ) (q : PositionReady o C A U s T L I p) where
+module _ (o : ByteOrder) (C A U : List ℕ) (s : Sources) (T L I : List ℕ) (items p : ℕ) (q : PositionReady o C A U s T L I items p) where
   abbrev S : Candidates
   S = symbolsIn o C A U s T
 
@@ -133,10 +133,10 @@ module _ (o : ByteOrder) (C A U : List ℕ) (s : Sources) (T L I : List ℕ) (p 
         unnamed-one S p (holderOf S p) (sym unnamed-here ∙ unnamed-told ∙ t) (holder-alike (isAlike S) (length (listed S)) (alike-parts S) p (q .low))
 
     -- the walk starts at the head of the bucket of its hash
-    pub walk-first : (k : ℕ) → k ≡ headIn ID_LIMIT I (bucketOf (row .hash)) → Walked o C A U s T I p k
+    pub walk-first : (k : ℕ) → k ≡ headIn ID_LIMIT I (bucketOf items (row .hash)) → Walked o C A U s T I p k
     walk-first k e =
         let g : row .hash ≡ hashIn I p = sym (q .index .hashed .each p (q .low) ∙ row-fields T (wordIn L p) row (sym is) .hash) in
-        rw (e, g) (reach-first (isAlike S p) (hashIn I p) I m implied ID_LIMIT (q .index .indexed))
+        rw (e, q .many, g) (reach-first (isAlike S p) (hashIn I p) I m implied ID_LIMIT (q .index .indexed))
 
     -- r is what the comparison with k said
     module _ (named : row .unnamed ≡ false) (k : ℕ) (w : Walked o C A U s T I p k) (r : Bool) (l : k < p) (told : r ≡ alikeIn o C A U s L I p k) where
@@ -154,7 +154,7 @@ module _ (o : ByteOrder) (C A U : List ℕ) (s : Sources) (T L I : List ℕ) (p 
 
 -- a list of m positions is the whole list
 pub ready-at : (o : ByteOrder) (C A U : List ℕ) (s : Sources) (T L I : List ℕ) (m p : ℕ)
-    → HoldersReady o C A U s T L m → ListIndexed T L I m → p < m → PositionReady o C A U s T L I p
+    → HoldersReady o C A U s T L m → ListIndexed T L I m → p < m → PositionReady o C A U s T L I m p
 ready-at o C A U s T L I m p ready index low =
     let e : m ≡ length (listed (symbolsIn o C A U s T)) = list-long (symbolsIn o C A U s T) L m (ready .list) in
-    record { low = rw e at low; ready = rw e at ready; index = rw e at index }
+    record { many = e; low = rw e at low; ready = rw e at ready; index = rw e at index }

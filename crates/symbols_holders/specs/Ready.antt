@@ -57,8 +57,9 @@ module _ (o : ByteOrder) (C A U : List ℕ) (s : Sources) where
     pub list : ListOf (symbolsIn T) L m
     pub hashes : (i : ℕ) → i < idCount s → idHash T i ≡ hashOf (idName i)
 
-  -- the same of the whole list, which is indexed, and a position p of it
-  pub record PositionReady (T L I : List ℕ) (p : ℕ) : Type 0 where
+  -- the same of the whole list of m positions, which is indexed, and a position p of it
+  pub record PositionReady (T L I : List ℕ) (m p : ℕ) : Type 0 where
+    pub many : m ≡ length (listed (symbolsIn T))
     pub low : p < length (listed (symbolsIn T))
     pub ready : HoldersReady T L (length (listed (symbolsIn T)))
     pub index : ListIndexed T L I (length (listed (symbolsIn T)))

@@ -4,12 +4,12 @@
 // merge, binding ignored".
 ghost use mathlib.Core.Path.{_≡_};
 ghost use mathlib.Core.List.{_++_};
-ghost use Prim.Native.Nat.{min, _+_, _-_, _*_, _≤_, _<_};
+ghost use Prim.Native.Nat.{min, _+_, _*_, _≤_, _<_};
 ghost use lib.ListN.{length, getD, take};
 ghost use Rattle.base_lists.specs.Windows.{spliced};
 ghost use Rattle.base_fields.specs.declared.ByteOrder.the-variants.{Big};
 ghost use Rattle.base_fields.specs.Numbers.{encoded};
-ghost use Rattle.base_index.specs.Index.{HASH_BYTES, mixedByte, mixed, hashOf, hashPlace, Room};
+ghost use Rattle.base_index.specs.Index.{mixedByte, mixed, hashOf, hashPlace, Room};
 ghost use Rattle.base_scope.specs.Limits.{STATIC_LIMIT, ID_LIMIT};
 ghost use Rattle.statics_table.specs.Statics.{countTail};
 ghost use Rattle.symbols_merge.specs.Listed.{holderOf};
@@ -19,16 +19,6 @@ ghost use Rattle.symbols_rows.specs.Steps.{Position, Positions};
 ghost use Rattle.symbols_holders.specs.Ready.{Hashed, ListIndexed, PositionHeld, alikeIn, idCount, idName, symbolsIn, HoldersReady, PositionReady, NamesHeld};
 use base_fields::ByteOrder;
 use symbols_names::Sources;
-
-// How many bytes of a name are hashed behind its first n.
-fn room_behind(n: usize) -> usize
-    ensures { λ r. ⌜ r ≡ HASH_BYTES - n ⌝ }
-{
-    if n < base_index::HASH_BYTES {
-        return base_index::HASH_BYTES - n;
-    }
-    0
-}
 
 // A hash with byte i of `:` and a count behind it.
 fn mix_tail(h: u32, number: u32, i: usize) -> u32
@@ -74,7 +64,7 @@ fn joined_hash(stored: &[u8], number: u32) -> u32
     let tail = statics_table::tail_length(number) as usize;
     let start = base_index::hash_start(stored.len() + tail);
     let front = base_index::hash_on(start, stored, base_index::HASH_BYTES);
-    let room = room_behind(stored.len());
+    let room = base_index::room_behind(stored.len());
     hash_tail(front, number, room)
 }
 
@@ -149,7 +139,7 @@ fn is_alike<'a>(
     false
 }
 
-// The holder of position p. The walk through the bucket of its hash comes to p itself at the latest, and p need not be compared with itself.
+// The holder of position p, of m. The walk through the bucket of its hash comes to p itself at the latest, and p need not be compared with itself.
 pub fn holder_at<'a>(
     order: ByteOrder,
     compiled: &'a [u8],
@@ -159,16 +149,17 @@ pub fn holder_at<'a>(
     rows: &[u8],
     list: &[u8],
     index: &[u8],
+    m: usize,
     p: usize,
 ) -> usize
-    requires { ⌜ PositionReady order (now compiled) (now assembled) (now statics) sources (now rows) (now list) (now index) p ⌝ }
+    requires { ⌜ PositionReady order (now compiled) (now assembled) (now statics) sources (now rows) (now list) (now index) m p ⌝ }
     ensures { λ r. ⌜ (r ≡ holderOf (symbolsIn order (now (compiled .entry)) (now (assembled .entry)) (now (statics .entry)) sources (now (rows .entry))) p) × (r ≤ p) ⌝ }
 {
     let row = symbols_rows::row_at(rows, list, p);
     if row.unnamed {
         return p;
     }
-    let mut k = base_index::head_of(index, base_scope::ID_LIMIT, row.hash);
+    let mut k = base_index::head_of(index, base_scope::ID_LIMIT, m, row.hash);
     while k < p {
         if is_alike(
             order,
@@ -188,7 +179,7 @@ pub fn holder_at<'a>(
     p
 }
 
-// Puts the holder of position p.
+// Puts the holder of position p, of m.
 fn hold_name<'a>(
     order: ByteOrder,
     compiled: &'a [u8],
@@ -198,10 +189,11 @@ fn hold_name<'a>(
     rows: &[u8],
     list: &[u8],
     index: &[u8],
+    m: usize,
     p: usize,
     holders: &mut [u8],
 )
-    requires { ⌜ PositionReady order (now compiled) (now assembled) (now statics) sources (now rows) (now list) (now index) p × (4 * p + 4 ≤ length (now holders)) ⌝ }
+    requires { ⌜ PositionReady order (now compiled) (now assembled) (now statics) sources (now rows) (now list) (now index) m p × (4 * p + 4 ≤ length (now holders)) ⌝ }
     ensures { λ _. ⌜ now (holders .exit) ≡ spliced (now (holders .entry)) (4 * p) (encoded Big 4
         (holderOf (symbolsIn order (now (compiled .entry)) (now (assembled .entry)) (now (statics .entry)) sources (now (rows .entry))) p)) ⌝ }
 {
@@ -214,6 +206,7 @@ fn hold_name<'a>(
         rows,
         list,
         index,
+        m,
         p,
     );
     base_fields::write32(ByteOrder::Big, holders, 4 * p, holder as u32);
@@ -248,6 +241,7 @@ pub fn hold_names<'a>(
             rows,
             list,
             index,
+            m,
             p,
             holders,
         );

@@ -17,14 +17,16 @@ use Rattle.base_answers.specs.Answers.{COMPILED}
 use Rattle.base_answers.proofs.Verdicts.{also-passed, also-refused, finding-clear, finding-at}
 use Rattle.elf_readers.specs.Readers.{codedContents}
 use Rattle.elf_symbols.specs.Symbols.{Table}
+use Rattle.elf_index.specs.Index.{SymbolIndex}
 use Rattle.elf_check.specs.View.{Viewed}
 use Rattle.elf_check.proofs.Views.{view-table}
 use Rattle.blocks_file.specs.Blocks.{blockCount}
 use Rattle.blocks_places.specs.Lines.{lineCount}
 use Rattle.blocks_places.specs.Places.{Place}
 use Rattle.blocks_places.specs.Table.{placesIn, Laid}
-use Rattle.merge_buffers.specs.Buffers.{ROWS_AT, HOLDERS_AT, USED_AT, STATIC_AT, GLABELS_AT, LIST_AT, STEP_BUFFER, NUMBERS_AT, INDEX_BUFFER, blocksPart, idsPart, placesPart, holdersPart, lateStepPart, usedPart, staticsPart, glabelsPart, listPart, orderPart, numbersPart, BuffersHeld, KeptBefore}
-use Rattle.merge_buffers.proofs.Parts.{kept-part, kept-same, kept-less, kept-then, part-long}
+use Rattle.base_buffers.specs.Parts.{KeptBefore}
+use Rattle.merge_buffers.specs.Buffers.{ROWS_AT, HOLDERS_AT, USED_AT, STATIC_AT, GLABELS_AT, LIST_AT, STEP_BUFFER, NUMBERS_AT, INDEX_BUFFER, blocksPart, idsPart, placesPart, holdersPart, lateStepPart, usedPart, staticsPart, glabelsPart, listPart, namesPart, orderPart, numbersPart, BuffersHeld}
+use Rattle.base_buffers.proofs.Parts.{kept-part, kept-same, kept-less, kept-then, part-long}
 use Rattle.merge_sections.specs.declared.Stage.{Stage}
 use Rattle.merge_sections.specs.Stages.{StageRead, Movable}
 use Rattle.merge_sections.proofs.Sections.{step-runs, step-start}
@@ -180,9 +182,10 @@ module _ (C A B : List ℕ) (s : Stage) (w : Manner) (table places steps index :
     }
 
     module _ (held : BuffersHeld table places steps index) where
-      pub statics-glabels : Table o A (s .inputs .assembled .symbols) × Laid P B (blocksPart table) (placesPart places) × (s .inputs .blocks ≡ blockCount B)
-          × BuffersHeld table places steps1 index
-      statics-glabels = (
+      pub statics-glabels : SymbolIndex o A (namesPart index)
+          → Table o A (s .inputs .assembled .symbols) × Laid P B (blocksPart table) (placesPart places) × (s .inputs .blocks ≡ blockCount B)
+          × BuffersHeld table places steps1 index × SymbolIndex o A (namesPart index)
+      statics-glabels x = (
         other-table,
         read .read .laid,
         read .read .many,
@@ -192,6 +195,7 @@ module _ (C A B : List ℕ) (s : Stage) (w : Manner) (table places steps index :
           steps-long = rw (u .kept .long) (held .steps-long);
           index-long = held .index-long;
         },
+        x,
       )
 
       -- it does not: the glabels are read
@@ -391,9 +395,10 @@ module _ (C A B : List ℕ) (s : Stage) (w : Manner) (table places steps index :
       late-1 : lateStepPart steps1 ≡ lateStepPart steps
       late-1 = kept-part USED_AT steps steps1 (t .kept) 0 LATE_TABLE (omega arith)
 
-      pub stage-statics : v ≡ Passed → w .head ≤ HEAD_LIMIT → StageRead C A B s (blocksPart table) (placesPart places) × Movable C B s P (lateStepPart steps1) × TakenPassed o C A P B
-          × Within (usedBytes o A) 0 (usedPart steps1) × (w .head ≤ HEAD_LIMIT) × BuffersHeld table places steps1 index
-      stage-statics p low = (
+      pub stage-statics : v ≡ Passed → w .head ≤ HEAD_LIMIT → SymbolIndex o A (namesPart index)
+          → StageRead C A B s (blocksPart table) (placesPart places) × Movable C B s P (lateStepPart steps1) × TakenPassed o C A P B
+          × Within (usedBytes o A) 0 (usedPart steps1) × (w .head ≤ HEAD_LIMIT) × BuffersHeld table places steps1 index × SymbolIndex o A (namesPart index)
+      stage-statics p low x = (
         read,
         rw late-1 movable,
         taken-passed o C A P B (sym taken-as ∙ p),
@@ -405,6 +410,7 @@ module _ (C A B : List ℕ) (s : Stage) (w : Manner) (table places steps index :
           steps-long = rw (t .kept .long) (held .steps-long);
           index-long = held .index-long;
         },
+        x,
       )
 
       pub stage-end : v ≡ Passed → (e : SymbolsEnd) (table2 places2 steps2 index2 : List ℕ) → StaticsEnd C A B s w e table table2 places places2 steps1 steps2 index2

@@ -10,12 +10,14 @@ use Rattle.base_index.specs.Index.{Room}
 use Rattle.base_scope.specs.Limits.{LATE_TABLE, STATIC_TABLE, USED_TABLE, GLABEL_TABLE, SYMBOL_LIMIT, ID_LIMIT, ID_ROW, ID_TABLE, POSITION_TABLE}
 use Rattle.base_answers.specs.declared.Verdict.{Verdict}
 use Rattle.elf_symbols.specs.Symbols.{symbolCount, symbolName, Table}
+use Rattle.elf_index.specs.Index.{SymbolIndex}
 use Rattle.elf_check.specs.View.{Viewed}
 use Rattle.blocks_file.specs.Blocks.{blockCount}
 use Rattle.blocks_places.specs.Lines.{lineCount}
 use Rattle.blocks_places.specs.Table.{placesIn, Laid}
-use Rattle.merge_buffers.specs.Buffers.{ROWS_AT, BLOCK_BUFFER, HOLDERS_AT, PLACE_BUFFER, USED_AT, STATIC_AT, GLABELS_AT, LIST_AT, STEP_BUFFER, NUMBERS_AT, SPANS_AT, INDEX_BUFFER, blocksPart, idsPart, placesPart, lateStepPart, usedPart, staticsPart, listPart, orderPart, numbersPart, BuffersHeld, KeptBefore}
-use Rattle.merge_buffers.proofs.Parts.{lent, putBack, kept-part, part-long, part-lent, put-table, put-kept}
+use Rattle.base_buffers.specs.Parts.{KeptBefore}
+use Rattle.merge_buffers.specs.Buffers.{ROWS_AT, BLOCK_BUFFER, HOLDERS_AT, PLACE_BUFFER, USED_AT, STATIC_AT, GLABELS_AT, LIST_AT, STEP_BUFFER, NUMBERS_AT, SPANS_AT, INDEX_BUFFER, blocksPart, idsPart, placesPart, lateStepPart, usedPart, staticsPart, listPart, namesPart, orderPart, numbersPart, BuffersHeld}
+use Rattle.base_buffers.proofs.Parts.{lent, putBack, kept-part, part-long, part-lent, put-table, put-kept}
 use Rattle.merge_inputs.specs.declared.Inputs.{Inputs}
 use Rattle.merge_sections.specs.declared.Stage.{Stage}
 use Rattle.statics_walk.specs.declared.Listing.{Listing}
@@ -24,7 +26,7 @@ use Rattle.statics_walk.specs.Code.{StaticsListed}
 use Rattle.symbols_merge.specs.Merged.{RESULT-GROUPS}
 use Rattle.symbols_taken.specs.Code.{usedBytes, LateIn, takenIn}
 use Rattle.symbols_taken.proofs.Marks.{used-within}
-use Rattle.symbols_glabels.specs.Words.{SymbolIndex, glabelWord, Holds, GlabelsReady}
+use Rattle.symbols_glabels.specs.Words.{glabelWord, Holds, GlabelsReady}
 use Rattle.symbols_rows.specs.Rows.{wordsIn, HoldersOf}
 use Rattle.symbols_rows.specs.Steps.{idsListed, Listing as IdsListing}
 use Rattle.symbols_holders.specs.Ready.{idCount, symbolsIn, HoldersReady}
@@ -88,10 +90,10 @@ module _ (A B : List ℕ) (i : Inputs) (table places steps index blocks lines : 
       let e : length (lent from to steps) ≡ GLABEL_TABLE = ap length (part-lent GLABELS_AT GLABEL_TABLE from to steps starts ends) ∙ part-long GLABELS_AT GLABEL_TABLE steps (omega (arith, held .steps-long)) in
       omega (arith, e)
 
-  pub glabels-ready : (made : List ℕ) → Table (i .order) A (i .assembled .symbols) → Laid (placesIn (placesPart places) (lineCount B)) B (blocksPart table) (placesPart places)
-      → i .blocks ≡ blockCount B → SymbolIndex (i .order) A made
-      → GlabelsReady (i .order) A (i .assembled .symbols) B blocks lines made × (i .blocks ≡ blockCount B) × (4 * SYMBOL_LIMIT ≤ length (lent from to steps))
-  glabels-ready made t laid many x = (record { symbols = t; laid = rw (b, p) laid; indexed = x }, many, words-long)
+  pub glabels-ready : (names : List ℕ) → names ≡ namesPart index → Table (i .order) A (i .assembled .symbols) → Laid (placesIn (placesPart places) (lineCount B)) B (blocksPart table) (placesPart places)
+      → i .blocks ≡ blockCount B → SymbolIndex (i .order) A (namesPart index)
+      → GlabelsReady (i .order) A (i .assembled .symbols) B blocks lines names × (i .blocks ≡ blockCount B) × (4 * SYMBOL_LIMIT ≤ length (lent from to steps))
+  glabels-ready names n t laid many x = (record { symbols = t; laid = rw (b, p) laid; indexed = rw n x }, many, words-long)
 
   pub glabels-of : (part : List ℕ) → length part ≡ length (lent from to steps)
       → Holds (λ k. glabelWord (placesIn lines (lineCount B)) B (symbolName (i .order) A k)) (symbolCount (i .order) A) (lent from to steps) part

@@ -9,7 +9,8 @@ use Rattle.base_answers.specs.declared.Verdict.the-variants.{Passed, Refused}
 use Rattle.blocks_places.specs.Lines.{lineCount}
 use Rattle.blocks_places.specs.Places.{Place}
 use Rattle.blocks_places.specs.Table.{placesIn}
-use Rattle.merge_buffers.specs.Buffers.{ROWS_AT, HOLDERS_AT, USED_AT, STATIC_AT, LIST_AT, idsPart, placesPart, holdersPart, lateStepPart, staticsPart, glabelsPart, listPart, orderPart, numbersPart, KeptBefore}
+use Rattle.base_buffers.specs.Parts.{KeptBefore}
+use Rattle.merge_buffers.specs.Buffers.{ROWS_AT, HOLDERS_AT, USED_AT, STATIC_AT, LIST_AT, idsPart, placesPart, holdersPart, lateStepPart, staticsPart, glabelsPart, listPart, orderPart, numbersPart}
 use Rattle.merge_sections.specs.declared.Stage.{Stage}
 use Rattle.statics_table.specs.Table.{staticsIn}
 use Rattle.statics_walk.specs.Walk.{statics}

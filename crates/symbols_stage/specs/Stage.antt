@@ -10,7 +10,8 @@ use Rattle.base_scope.specs.Limits.{POSITION_TABLE}
 use Rattle.base_answers.specs.declared.Verdict.{Verdict}
 use Rattle.elf_symbols.specs.Symbols.{symbolCount, symbolName}
 use Rattle.blocks_places.specs.Places.{Place}
-use Rattle.merge_buffers.specs.Buffers.{ROWS_AT, HOLDERS_AT, USED_AT, STATIC_AT, GLABELS_AT, LIST_AT, NUMBERS_AT, idsPart, holdersPart, lateStepPart, usedPart, staticsPart, glabelsPart, listPart, orderPart, numbersPart, KeptBefore}
+use Rattle.base_buffers.specs.Parts.{KeptBefore}
+use Rattle.merge_buffers.specs.Buffers.{ROWS_AT, HOLDERS_AT, USED_AT, STATIC_AT, GLABELS_AT, LIST_AT, NUMBERS_AT, idsPart, holdersPart, lateStepPart, usedPart, staticsPart, glabelsPart, listPart, orderPart, numbersPart}
 use Rattle.merge_sections.specs.declared.Stage.{Stage}
 use Rattle.statics_walk.specs.declared.Listing.{Listing}
 use Rattle.statics_walk.specs.Walk.{staticsFault, statics}

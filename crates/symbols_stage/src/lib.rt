@@ -8,6 +8,7 @@ ghost use Rattle.base_scope.specs.Limits.{FILE_LIMIT, HEAD_LIMIT, ID_LIMIT};
 ghost use Rattle.elf_readers.specs.Bounds.{Named};
 ghost use Rattle.elf_check.specs.View.{viewOf, Viewed};
 ghost use Rattle.elf_symbols.specs.Symbols.{Table};
+ghost use Rattle.elf_index.specs.Index.{SymbolIndex};
 ghost use Rattle.blocks_file.specs.Blocks.{blockCount};
 ghost use Rattle.blocks_places.specs.Lines.{lineCount};
 ghost use Rattle.blocks_places.specs.Table.{placesIn, Laid};
@@ -18,7 +19,7 @@ ghost use Rattle.symbols_taken.specs.Code.{usedBytes, LateIn, takenIn};
 ghost use Rattle.symbols_holders.specs.Ready.{symbolsIn, HoldersReady};
 ghost use Rattle.symbols_numbers.specs.Numbers.{Tables, HoldersFirst, groupStarts};
 ghost use Rattle.symbols_fill.specs.Fill.{FillReady};
-ghost use Rattle.merge_buffers.specs.Buffers.{BLOCK_BUFFER, PLACE_BUFFER, STEP_BUFFER, INDEX_BUFFER, blocksPart, idsPart, placesPart, lateStepPart, usedPart, staticsPart, listPart, orderPart, numbersPart, BuffersHeld};
+ghost use Rattle.merge_buffers.specs.Buffers.{BLOCK_BUFFER, PLACE_BUFFER, STEP_BUFFER, INDEX_BUFFER, blocksPart, idsPart, placesPart, lateStepPart, usedPart, staticsPart, listPart, namesPart, orderPart, numbersPart, BuffersHeld};
 ghost use Rattle.symbols_chain.specs.Chain.{SymbolsNumbered};
 ghost use Rattle.symbols_stage.specs.Stage.{SymbolsTaken, StaticsRead, GlabelsRead, IdsFilledIn, IdsListedIn, IdsHeldIn, IdRooms, OrderLeft, NumbersLeft};
 ghost use Rattle.symbols_stage.specs.End.{countsOf, fillingOf, NumberedEnd, ListEnd, StaticsEnd, StageEnd};
@@ -42,8 +43,8 @@ fn taken_verdict(assembled: &[u8], stage: Stage, steps: &[u8]) -> Verdict
         × LateIn (stage .step .runs) (lateStepPart (now steps)) (stage .inputs .blocks) × (STEP_BUFFER ≤ length (now steps)) ⌝ }
     ensures { λ r. ⌜ r ≡ takenIn (stage .inputs .compiled) (stage .inputs .assembled) (stage .inputs .order) (now (assembled .entry)) (stage .step .runs) (lateStepPart (now (steps .entry))) (stage .inputs .blocks) ⌝ }
 {
-    let late = merge_buffers::part(steps, 0, base_scope::LATE_TABLE);
-    let used = merge_buffers::part(steps, merge_buffers::USED_AT, base_scope::USED_TABLE);
+    let late = base_buffers::part(steps, 0, base_scope::LATE_TABLE);
+    let used = base_buffers::part(steps, merge_buffers::USED_AT, base_scope::USED_TABLE);
     symbols_taken::taken_verdict(assembled, stage.inputs, stage.step, late, used)
 }
 
@@ -55,8 +56,8 @@ fn take_symbols(assembled: &[u8], stage: Stage, steps: &mut [u8]) -> Verdict
 {
     let inputs = stage.inputs;
     let order = inputs.order;
-    let from = merge_buffers::bound(merge_buffers::USED_AT);
-    let to = merge_buffers::bound(merge_buffers::STATIC_AT);
+    let from = base_buffers::bound(merge_buffers::USED_AT);
+    let to = base_buffers::bound(merge_buffers::STATIC_AT);
     symbols_taken::mark_used(order, assembled, inputs.assembled, &mut steps[from..to]);
     taken_verdict(assembled, stage, steps)
 }
@@ -68,8 +69,8 @@ fn read_statics(compiled: &[u8], inputs: Inputs, mode: u32, head: u32, steps: &m
     ensures { λ r. ⌜ StaticsRead (now (compiled .entry)) (inputs .order) mode head r (now (steps .entry)) (now (steps .exit)) ⌝ }
 {
     let order = inputs.order;
-    let from = merge_buffers::bound(merge_buffers::STATIC_AT);
-    let to = merge_buffers::bound(merge_buffers::GLABELS_AT);
+    let from = base_buffers::bound(merge_buffers::STATIC_AT);
+    let to = base_buffers::bound(merge_buffers::GLABELS_AT);
     statics_walk::list_statics(
         order,
         compiled,
@@ -80,29 +81,30 @@ fn read_statics(compiled: &[u8], inputs: Inputs, mode: u32, head: u32, steps: &m
     )
 }
 
-// Indexes A's symbols, and leaves the words of the glabels.
+// Leaves the words of the glabels, by the index of A's symbols.
 fn read_glabels(
     assembled: &[u8],
     file: &[u8],
     inputs: Inputs,
     table: &[u8],
     places: &[u8],
+    index: &[u8],
     steps: &mut [u8],
-    index: &mut [u8],
 )
     requires { ⌜ Table (inputs .order) (now assembled) (inputs .assembled .symbols)
         × Laid (placesIn (placesPart (now places)) (lineCount (now file))) (now file) (blocksPart (now table)) (placesPart (now places))
-        × (inputs .blocks ≡ blockCount (now file)) × BuffersHeld (now table) (now places) (now steps) (now index) ⌝ }
+        × (inputs .blocks ≡ blockCount (now file)) × BuffersHeld (now table) (now places) (now steps) (now index)
+        × SymbolIndex (inputs .order) (now assembled) (namesPart (now index)) ⌝ }
     ensures { λ _. ⌜ GlabelsRead (now (assembled .entry)) (now (file .entry)) (inputs .order) (placesIn (placesPart (now (places .entry))) (lineCount (now (file .entry)))) (now (steps .entry)) (now (steps .exit)) ⌝ }
 {
     let order = inputs.order;
     let source = inputs.assembled;
     let symbols = source.symbols;
-    symbols_glabels::index_symbols(order, assembled, symbols, index);
-    let blocks = merge_buffers::part(table, 0, base_scope::BLOCK_TABLE);
-    let lines = merge_buffers::part(places, 0, base_scope::PLACE_TABLE);
-    let from = merge_buffers::bound(merge_buffers::GLABELS_AT);
-    let to = merge_buffers::bound(merge_buffers::LIST_AT);
+    let blocks = base_buffers::part(table, 0, base_scope::BLOCK_TABLE);
+    let lines = base_buffers::part(places, 0, base_scope::PLACE_TABLE);
+    let names = base_buffers::part(index, 0, base_scope::SYMBOL_INDEX);
+    let from = base_buffers::bound(merge_buffers::GLABELS_AT);
+    let to = base_buffers::bound(merge_buffers::LIST_AT);
     symbols_glabels::mark_glabels(
         order,
         assembled,
@@ -111,7 +113,7 @@ fn read_glabels(
         blocks,
         lines,
         inputs.blocks,
-        index,
+        names,
         &mut steps[from..to],
     );
 }
@@ -128,11 +130,11 @@ fn fill_table<'a>(
         × (STEP_BUFFER ≤ length (now steps)) ⌝ }
     ensures { λ r. ⌜ IdsFilledIn (now (compiled .entry)) (now (assembled .entry)) filling r (now (steps .entry)) (now (table .entry)) (now (table .exit)) ⌝ }
 {
-    let statics = merge_buffers::part(steps, merge_buffers::STATIC_AT, base_scope::STATIC_TABLE);
-    let used = merge_buffers::part(steps, merge_buffers::USED_AT, base_scope::USED_TABLE);
-    let late = merge_buffers::part(steps, 0, base_scope::LATE_TABLE);
-    let from = merge_buffers::bound(merge_buffers::ROWS_AT);
-    let to = merge_buffers::bound(merge_buffers::BLOCK_BUFFER);
+    let statics = base_buffers::part(steps, merge_buffers::STATIC_AT, base_scope::STATIC_TABLE);
+    let used = base_buffers::part(steps, merge_buffers::USED_AT, base_scope::USED_TABLE);
+    let late = base_buffers::part(steps, 0, base_scope::LATE_TABLE);
+    let from = base_buffers::bound(merge_buffers::ROWS_AT);
+    let to = base_buffers::bound(merge_buffers::BLOCK_BUFFER);
     symbols_fill::fill_rows(
         compiled,
         assembled,
@@ -157,9 +159,9 @@ fn list_symbols<'a>(
     ensures { λ r. ⌜ IdsListedIn (now (compiled .entry)) (now (assembled .entry)) filling r (now (table .entry)) (now (table .exit)) (now (steps .entry)) (now (steps .exit)) ⌝ }
 {
     let n = fill_table(compiled, assembled, filling, table, steps);
-    let rows = merge_buffers::part(table, merge_buffers::ROWS_AT, base_scope::ID_TABLE);
-    let from = merge_buffers::bound(merge_buffers::LIST_AT);
-    let to = merge_buffers::bound(merge_buffers::STEP_BUFFER);
+    let rows = base_buffers::part(table, merge_buffers::ROWS_AT, base_scope::ID_TABLE);
+    let from = base_buffers::bound(merge_buffers::LIST_AT);
+    let to = base_buffers::bound(merge_buffers::STEP_BUFFER);
     symbols_rows::list_ids(rows, n, &mut steps[from..to])
 }
 
@@ -181,11 +183,11 @@ fn hold_symbols<'a>(
 {
     let inputs = filling.inputs;
     let order = inputs.order;
-    let statics = merge_buffers::part(steps, merge_buffers::STATIC_AT, base_scope::STATIC_TABLE);
-    let rows = merge_buffers::part(table, merge_buffers::ROWS_AT, base_scope::ID_TABLE);
-    let list = merge_buffers::part(steps, merge_buffers::LIST_AT, base_scope::POSITION_TABLE);
-    let from = merge_buffers::bound(merge_buffers::HOLDERS_AT);
-    let to = merge_buffers::bound(merge_buffers::PLACE_BUFFER);
+    let statics = base_buffers::part(steps, merge_buffers::STATIC_AT, base_scope::STATIC_TABLE);
+    let rows = base_buffers::part(table, merge_buffers::ROWS_AT, base_scope::ID_TABLE);
+    let list = base_buffers::part(steps, merge_buffers::LIST_AT, base_scope::POSITION_TABLE);
+    let from = base_buffers::bound(merge_buffers::HOLDERS_AT);
+    let to = base_buffers::bound(merge_buffers::PLACE_BUFFER);
     symbols_chain::hold_symbols(
         order,
         compiled,
@@ -212,8 +214,8 @@ fn order_result(
     requires { ⌜ Tables (now rows) (now list) (now holders) m × (starts ≡ groupStarts (now rows) (now list) (now holders) m) × (INDEX_BUFFER ≤ length (now index)) ⌝ }
     ensures { λ _. ⌜ OrderLeft (now (rows .entry)) (now (list .entry)) (now (holders .entry)) m (now (index .exit)) ⌝ }
 {
-    let from = merge_buffers::bound(0);
-    let to = merge_buffers::bound(merge_buffers::NUMBERS_AT);
+    let from = base_buffers::bound(0);
+    let to = base_buffers::bound(merge_buffers::NUMBERS_AT);
     symbols_numbers::order_positions(rows, list, holders, m, starts, &mut index[from..to]);
 }
 
@@ -230,8 +232,8 @@ fn number_result(
         × IdRooms (now list) m × (INDEX_BUFFER ≤ length (now index)) ⌝ }
     ensures { λ _. ⌜ NumbersLeft (now (rows .entry)) (now (list .entry)) (now (holders .entry)) m (now (index .entry)) (now (index .exit)) ⌝ }
 {
-    let from = merge_buffers::bound(merge_buffers::NUMBERS_AT);
-    let to = merge_buffers::bound(merge_buffers::SPANS_AT);
+    let from = base_buffers::bound(merge_buffers::NUMBERS_AT);
+    let to = base_buffers::bound(merge_buffers::SPANS_AT);
     symbols_numbers::number_ids(rows, list, holders, m, starts, &mut index[from..to]);
 }
 
@@ -316,9 +318,9 @@ fn merge_list<'a>(
 {
     let m = list_symbols(compiled, assembled, filling, table, steps);
     hold_symbols(compiled, assembled, filling, m, table, steps, places, index);
-    let rows = merge_buffers::part(table, merge_buffers::ROWS_AT, base_scope::ID_TABLE);
-    let list = merge_buffers::part(steps, merge_buffers::LIST_AT, base_scope::POSITION_TABLE);
-    let holders = merge_buffers::part(
+    let rows = base_buffers::part(table, merge_buffers::ROWS_AT, base_scope::ID_TABLE);
+    let list = base_buffers::part(steps, merge_buffers::LIST_AT, base_scope::POSITION_TABLE);
+    let holders = base_buffers::part(
         places,
         merge_buffers::HOLDERS_AT,
         base_scope::POSITION_TABLE,
@@ -366,7 +368,7 @@ fn merge_statics<'a>(
         × Movable (now compiled) (now file) stage (placesIn (placesPart (now places)) (lineCount (now file))) (lateStepPart (now steps))
         × TakenPassed (stage .inputs .order) (now compiled) (now assembled) (placesIn (placesPart (now places)) (lineCount (now file))) (now file)
         × Within (usedBytes (stage .inputs .order) (now assembled)) 0 (usedPart (now steps)) × (manner .head ≤ HEAD_LIMIT)
-        × BuffersHeld (now table) (now places) (now steps) (now index) ⌝ }
+        × BuffersHeld (now table) (now places) (now steps) (now index) × SymbolIndex (stage .inputs .order) (now assembled) (namesPart (now index)) ⌝ }
     ensures { λ r. ⌜ StaticsEnd (now (compiled .entry)) (now (assembled .entry)) (now (file .entry)) stage manner r (now (table .entry)) (now (table .exit)) (now (places .entry)) (now (places .exit)) (now (steps .entry)) (now (steps .exit)) (now (index .exit)) ⌝ }
 {
     let inputs = stage.inputs;
@@ -374,7 +376,7 @@ fn merge_statics<'a>(
     let fault = listing.fault;
     match fault {
         Finding::Clear => {
-            read_glabels(assembled, file, inputs, table, places, steps, index);
+            read_glabels(assembled, file, inputs, table, places, index, steps);
             let tally = listing.tally;
             let filling = filling_of(stage, manner.mode, tally.count);
             merge_list(compiled, assembled, filling, table, places, steps, index)
@@ -387,7 +389,8 @@ fn merge_statics<'a>(
     }
 }
 
-// Refusals 15 to 19 in order, and the numbering of the result where none refuses: its tables stand in the buffers then.
+// Refusals 15 to 19 in order, and the numbering of the result where none refuses: its tables stand in the buffers then. The index of A's symbols stands at the start of its
+// buffer, and is written over.
 pub fn merge_symbols<'a>(
     compiled: &'a [u8],
     assembled: &'a [u8],
@@ -401,7 +404,7 @@ pub fn merge_symbols<'a>(
 ) -> SymbolsEnd
     requires { ⌜ StageRead (now compiled) (now assembled) (now file) stage (blocksPart (now table)) (placesPart (now places))
         × Movable (now compiled) (now file) stage (placesIn (placesPart (now places)) (lineCount (now file))) (lateStepPart (now steps)) × (manner .head ≤ HEAD_LIMIT)
-        × BuffersHeld (now table) (now places) (now steps) (now index) ⌝ }
+        × BuffersHeld (now table) (now places) (now steps) (now index) × SymbolIndex (stage .inputs .order) (now assembled) (namesPart (now index)) ⌝ }
     ensures { λ r. ⌜ StageEnd (now (compiled .entry)) (now (assembled .entry)) (now (file .entry)) stage manner r (now (table .entry)) (now (table .exit)) (now (places .entry)) (now (places .exit)) (now (steps .entry)) (now (steps .exit)) (now (index .exit)) ⌝ }
 {
     match take_symbols(assembled, stage, steps) {

@@ -16,7 +16,7 @@ use Rattle.elf_check.specs.declared.View.{View}
 use Rattle.elf_check.specs.View.{viewOf}
 use Rattle.statics_table.specs.Statics.{nameHead}
 use Rattle.merge_buffers.specs.Buffers.{NUMBERS_AT}
-use Rattle.merge_buffers.proofs.Parts.{part-long}
+use Rattle.base_buffers.proofs.Parts.{part-long}
 use Rattle.merge_kept.specs.Kept.{kept}
 use Rattle.symbols_merge.specs.Candidates.{Candidates}
 use Rattle.symbols_merge.specs.Listed.{listed}

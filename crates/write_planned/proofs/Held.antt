@@ -5,7 +5,7 @@ use mathlib.Core.List.{List}
 use native.Mathlib.Omega.{arith}
 use Rattle.base_scope.specs.Limits.{POSITION_TABLE}
 use Rattle.merge_buffers.specs.Buffers.{NUMBERS_AT, SPANS_AT, orderPart, numbersPart}
-use Rattle.merge_buffers.proofs.Parts.{kept-part, kept-same}
+use Rattle.base_buffers.proofs.Parts.{kept-part, kept-same}
 use Rattle.carry_stage.specs.Tables.{CARRY_SPANS_AT, HOMES_AT}
 use Rattle.carry_stage.specs.Carry.{CarryRead}
 use Rattle.carry_stage.proofs.Stage.{ready-carry}

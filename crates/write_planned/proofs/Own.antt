@@ -15,8 +15,9 @@ use Rattle.blocks_places.specs.Table.{placesIn}
 use Rattle.statics_table.specs.Statics.{nameHead}
 use Rattle.statics_table.specs.Table.{staticsIn}
 use Rattle.statics_walk.specs.Walk.{statics}
-use Rattle.merge_buffers.specs.Buffers.{NUMBERS_AT, SPANS_AT, SPANS_END, INDEX_BUFFER, partAt, blocksPart, idsPart, placesPart, lateStepPart, staticsPart, glabelsPart, listPart, orderPart}
-use Rattle.merge_buffers.proofs.Parts.{lent, putBack, part-long, part-lent, put-kept, kept-same}
+use Rattle.base_buffers.specs.Parts.{partAt}
+use Rattle.merge_buffers.specs.Buffers.{NUMBERS_AT, SPANS_AT, SPANS_END, INDEX_BUFFER, blocksPart, idsPart, placesPart, lateStepPart, staticsPart, glabelsPart, listPart, orderPart}
+use Rattle.base_buffers.proofs.Parts.{lent, putBack, part-long, part-lent, put-kept, kept-same}
 use Rattle.merge_sections.specs.Sections.{resultSection}
 use Rattle.merge_sections.specs.Stages.{StageRead, Movable}
 use Rattle.symbols_merge.specs.Candidates.{Candidates}

@@ -9,7 +9,8 @@ use Rattle.base_scope.specs.Limits.{PATH_LIMIT}
 use Rattle.blocks_places.specs.Lines.{lineCount}
 use Rattle.blocks_places.specs.Places.{Place}
 use Rattle.blocks_places.specs.Table.{placesIn}
-use Rattle.merge_buffers.specs.Buffers.{SPANS_AT, blocksPart, placesPart, lateStepPart, BuffersHeld, KeptBefore}
+use Rattle.base_buffers.specs.Parts.{KeptBefore}
+use Rattle.merge_buffers.specs.Buffers.{SPANS_AT, blocksPart, placesPart, lateStepPart, BuffersHeld}
 use Rattle.merge_sections.specs.Stages.{StageRead, Movable}
 use Rattle.statics_table.specs.Statics.{nameHead}
 use Rattle.statics_walk.specs.Walk.{statics}

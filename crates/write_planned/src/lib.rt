@@ -151,10 +151,10 @@ fn append_table(
 {
     let stage = x.stage;
     let carry = x.carry;
-    let rows = merge_buffers::part(index, carry_stage::CARRY_SPANS_AT, base_scope::SPAN_TABLE);
-    let late = merge_buffers::part(steps, 0, base_scope::LATE_TABLE);
-    let numbers = merge_buffers::part(index, merge_buffers::NUMBERS_AT, base_scope::POSITION_TABLE);
-    let homes = merge_buffers::part(places, carry_stage::HOMES_AT, HOME_TABLE);
+    let rows = base_buffers::part(index, carry_stage::CARRY_SPANS_AT, base_scope::SPAN_TABLE);
+    let late = base_buffers::part(steps, 0, base_scope::LATE_TABLE);
+    let numbers = base_buffers::part(index, merge_buffers::NUMBERS_AT, base_scope::POSITION_TABLE);
+    let homes = base_buffers::part(places, carry_stage::HOMES_AT, HOME_TABLE);
     append_both(
         out,
         at,
@@ -258,11 +258,11 @@ fn append_numbered<'a>(
         × (r ≤ at + 2 ^ 34) ⌝ }
 {
     let n = numbering_of(x);
-    let statics = merge_buffers::part(steps, merge_buffers::STATIC_AT, base_scope::STATIC_TABLE);
-    let marks = merge_buffers::part(steps, merge_buffers::GLABELS_AT, base_scope::GLABEL_TABLE);
-    let rows = merge_buffers::part(table, merge_buffers::ROWS_AT, base_scope::ID_TABLE);
-    let list = merge_buffers::part(steps, merge_buffers::LIST_AT, base_scope::POSITION_TABLE);
-    let order = merge_buffers::part(index, 0, base_scope::POSITION_TABLE);
+    let statics = base_buffers::part(steps, merge_buffers::STATIC_AT, base_scope::STATIC_TABLE);
+    let marks = base_buffers::part(steps, merge_buffers::GLABELS_AT, base_scope::GLABEL_TABLE);
+    let rows = base_buffers::part(table, merge_buffers::ROWS_AT, base_scope::ID_TABLE);
+    let list = base_buffers::part(steps, merge_buffers::LIST_AT, base_scope::POSITION_TABLE);
+    let order = base_buffers::part(index, 0, base_scope::POSITION_TABLE);
     write_content::append_symbols(
         out,
         at,
@@ -305,7 +305,7 @@ fn append_symbol_strings(
     let mode = manner.mode;
     let counts = x.counts;
     let n = counts.statics;
-    let statics = merge_buffers::part(steps, merge_buffers::STATIC_AT, base_scope::STATIC_TABLE);
+    let statics = base_buffers::part(steps, merge_buffers::STATIC_AT, base_scope::STATIC_TABLE);
     write_strings::append_strings(
         out,
         at,
@@ -346,11 +346,11 @@ fn append_section(
     let stage = x.stage;
     let inputs = stage.inputs;
     let code = symbols_taken::code_of(inputs.compiled, i);
-    let blocks = merge_buffers::part(table, 0, base_scope::BLOCK_TABLE);
-    let lines = merge_buffers::part(places, 0, base_scope::PLACE_TABLE);
-    let late = merge_buffers::part(steps, 0, base_scope::LATE_TABLE);
-    let from = merge_buffers::bound(merge_buffers::SPANS_AT);
-    let to = merge_buffers::bound(merge_buffers::SPANS_END);
+    let blocks = base_buffers::part(table, 0, base_scope::BLOCK_TABLE);
+    let lines = base_buffers::part(places, 0, base_scope::PLACE_TABLE);
+    let late = base_buffers::part(steps, 0, base_scope::LATE_TABLE);
+    let from = base_buffers::bound(merge_buffers::SPANS_AT);
+    let to = base_buffers::bound(merge_buffers::SPANS_END);
     write_content::append_copied(
         out,
         at,
@@ -465,7 +465,7 @@ fn append_opened(
     let found = carry.homes;
     let n = found.tables;
     let stay = carry.stay;
-    let homes = merge_buffers::part(places, carry_stage::HOMES_AT, HOME_TABLE);
+    let homes = base_buffers::part(places, carry_stage::HOMES_AT, HOME_TABLE);
     write_content::append_new_names(out, at, order, assembled, source, homes, n, stay, many)
 }
 

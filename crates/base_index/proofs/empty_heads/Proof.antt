@@ -1,5 +1,5 @@
 -- After b turns the first b buckets are empty, and no hash has changed. Assumes nothing.
-use Rattle.base_index.specs.Index.{BUCKETS, Emptied}
+use Rattle.base_index.specs.Index.{bucketsOf, Emptied}
 use Rattle.base_index.proofs.Chains.{room-same, empty-none, empty-next}
 use borrow.Author.Needs.{needs}
 use native.Mathlib.Omega.{arith}
@@ -11,10 +11,13 @@ use Rattle.base_index.proofs.empty_heads.Statement.{statement}
 use Rattle.base_index.proofs.empty_heads.Tie as tie
 
 abbrev Inv-loop : tie.InvT-loop
-Inv-loop table₀ cap n b₀ table b = (b ≤ BUCKETS) × (length table ≡ length table₀) × Emptied cap n b table₀ table
+Inv-loop table₀ cap n most b₀ table b = (b ≤ most) × (length table ≡ length table₀) × Emptied cap n b table₀ table
 
 abbrev μ-loop : tie.MeasureT-loop
-μ-loop table₀ cap n b₀ table b = BUCKETS - b
+μ-loop table₀ cap n most b₀ table b = most - b
+
+buckets-of-requires : tie.Need-buckets-of-requires Inv-loop μ-loop
+buckets-of-requires c κs = search needs
 
 loop-holds : tie.Need-loop-holds Inv-loop μ-loop
 loop-holds c = (omega arith, refl, empty-none _ _ _)
@@ -36,13 +39,13 @@ loop-less c = search needs
 
 loop-again : tie.Need-loop-again Inv-loop μ-loop
 loop-again c =
-    let s = c .before .before .before .before .before .before .before .before in
+    let s = c .before .before .before .before .before .before .before .before .before in
     let l = c .before .before .before .before .before .before .loop in
     let w = c .before .before .write32 in
     let r = room-same (s .args .cap) (now (s .args .table)) (l .table) (l .inv .1) (s .pre .0) in (
       omega arith,
       w .kept .1 .0 ∙ l .inv .1,
-      empty-next (s .args .cap) (s .args .n) (l .b) _ (now (s .args .table)) (l .table) _ r (omega arith) (c .before .before .before .head-place .ensures) (w .ensures) (l .inv .2),
+      empty-next (s .args .cap) (s .args .n) (l .b) _ (now (s .args .table)) (l .table) _ r (omega (arith, c .before .before .before .before .before .before .before .buckets-of .ensures)) (c .before .before .before .head-place .ensures) (w .ensures) (l .inv .2),
     )
 
 same-length : tie.Need-same-length Inv-loop μ-loop
@@ -51,7 +54,8 @@ same-length c = search needs
 returns : tie.Need-returns Inv-loop μ-loop
 returns c =
     let l = c .before .loop in
-    let e : l .b ≡ BUCKETS = omega arith in
+    let n = c .before .before .before .before .args .n in
+    let e : l .b ≡ bucketsOf n = omega (arith, c .before .before .buckets-of .ensures .0) in
     rw e at (l .inv .2)
 
 pub empty-heads-spec : {M : Type 1} → statement M
@@ -60,6 +64,7 @@ empty-heads-spec =
     (tie.spec
     Inv-loop
     μ-loop
+    buckets-of-requires
     loop-holds
     head-place-requires
     cast-write32

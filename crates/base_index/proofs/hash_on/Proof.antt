@@ -1,6 +1,6 @@
 -- The bytes that are not passed yet go behind the hash of those that are. Assumes nothing.
 use Rattle.base_index.specs.Index.{mixed}
-use Rattle.base_index.proofs.Hashes.{mixed-next, mixed-end}
+use Rattle.base_index.proofs.Hashes.{mixed-next, mixed-four, mixed-end}
 use borrow.Author.Needs.{needs}
 use native.Mathlib.Omega.{arith}
 use Prim.Native.Nat.{ℕ, _+_, _-_, _≤_}
@@ -22,6 +22,9 @@ shorter-requires c κs = search needs
 loop-holds : tie.Need-loop-holds Inv-loop μ-loop
 loop-holds c = (omega arith, refl)
 
+sub-if1 : tie.Need-sub-if1 Inv-loop μ-loop
+sub-if1 c = search needs
+
 shared-slice-read-mix : tie.Need-shared-slice-read-mix Inv-loop μ-loop
 shared-slice-read-mix c = search needs
 
@@ -36,13 +39,54 @@ loop-less c = search needs
 
 loop-again : tie.Need-loop-again Inv-loop μ-loop
 loop-again c =
-    let a = c .before .before .before .before .before .before .args in
-    let l = c .before .before .before .loop in
-    let e = c .before .before .before .before .shorter .ensures in (
+    let a = c .before .before .before .before .before .before .before .args in
+    let l = c .before .before .before .before .loop in
+    let e = c .before .before .before .before .before .shorter .ensures in (
       omega arith,
       l .inv .1
           ∙ mixed-next (l .g) (now (a .s)) (a .room) (l .i) (omega (arith, e))
           ∙ ap (λ (x : ℕ). mixed x (drop (l .i + 1) (take (a .room) (now (a .s))))) (sym (c .mix .ensures)),
+    )
+
+shared-slice-read-mix-four : tie.Need-shared-slice-read-mix-four Inv-loop μ-loop
+shared-slice-read-mix-four c = search needs
+
+add-mix-four : tie.Need-add-mix-four Inv-loop μ-loop
+add-mix-four c = search needs
+
+shared-slice-read-mix-four-2 : tie.Need-shared-slice-read-mix-four-2 Inv-loop μ-loop
+shared-slice-read-mix-four-2 c = search needs
+
+add-mix-four-2 : tie.Need-add-mix-four-2 Inv-loop μ-loop
+add-mix-four-2 c = search needs
+
+shared-slice-read-mix-four-3 : tie.Need-shared-slice-read-mix-four-3 Inv-loop μ-loop
+shared-slice-read-mix-four-3 c = search needs
+
+add-mix-four-3 : tie.Need-add-mix-four-3 Inv-loop μ-loop
+add-mix-four-3 c = search needs
+
+shared-slice-read-mix-four-4 : tie.Need-shared-slice-read-mix-four-4 Inv-loop μ-loop
+shared-slice-read-mix-four-4 c = search needs
+
+mix-four-requires : tie.Need-mix-four-requires Inv-loop μ-loop
+mix-four-requires c κs = search needs
+
+add-i-2 : tie.Need-add-i-2 Inv-loop μ-loop
+add-i-2 c = search needs
+
+loop-less-2 : tie.Need-loop-less-2 Inv-loop μ-loop
+loop-less-2 c = search needs
+
+loop-again-2 : tie.Need-loop-again-2 Inv-loop μ-loop
+loop-again-2 c =
+    let a = c .before .before .before .before .before .before .before .before .before .before .args in
+    let l = c .before .before .before .before .before .before .before .loop in
+    let e = c .before .before .before .before .before .before .before .before .shorter .ensures in (
+      omega arith,
+      l .inv .1
+          ∙ mixed-four (l .g) (now (a .s)) (a .room) (l .i) (omega (arith, e))
+          ∙ ap (λ (x : ℕ). mixed x (drop (l .i + 4) (take (a .room) (now (a .s))))) (sym (c .mix-four .ensures)),
     )
 
 returns : tie.Need-returns Inv-loop μ-loop
@@ -60,9 +104,21 @@ hash-on-spec =
     μ-loop
     shorter-requires
     loop-holds
+    sub-if1
     shared-slice-read-mix
     mix-requires
     add-i
     loop-less
     loop-again
+    shared-slice-read-mix-four
+    add-mix-four
+    shared-slice-read-mix-four-2
+    add-mix-four-2
+    shared-slice-read-mix-four-3
+    add-mix-four-3
+    shared-slice-read-mix-four-4
+    mix-four-requires
+    add-i-2
+    loop-less-2
+    loop-again-2
     returns)

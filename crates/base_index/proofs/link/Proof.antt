@@ -40,7 +40,7 @@ returns c =
     let W = c .before .before .before .before .before .before .before .before in
     let H = W .before .before .before in
     let a = H .before .before .before .before .before .args in
-    link-is (a .cap) (a .j) _ _ _ _ _ (now (a .table)) _ _ (H .before .before .hash-at .ensures) (H .head-of .ensures .0) (W .before .next-place .ensures) (W .write32 .ensures)
+    link-is (a .cap) (a .n) (a .j) _ _ _ _ _ (now (a .table)) _ _ (H .before .before .hash-at .ensures) (H .head-of .ensures .0) (W .before .next-place .ensures) (W .write32 .ensures)
     (c .before .before .before .before .bucket-of .ensures .0) (c .before .before .before .head-place .ensures) (c .before .before .write322 .ensures)
 
 pub link-spec : {M : Type 1} → statement M

@@ -19,7 +19,7 @@ span-align8-requires c κs = search needs
 
 symbol-at-requires : tie.Need-symbol-at-requires
 symbol-at-requires c κs =
-    let b = c .before .before .before .before .before .before .before .before in
+    let b = c .before .before .before .before .before .before .before .before .before in
     let a = b .args in
     let x = b .pre .0 .symbols in
     (x .tabled, table-at (a .order) (now (a .compiled)) (a .symbols) x, omega (arith, table-count (a .order) (now (a .compiled)) (a .symbols) x))
@@ -32,8 +32,8 @@ on-step-requires c κs = search needs
 
 returns : tie.Need-returns
 returns c =
-    let a = c .before .before .before .before .before .before .before .before .before .before .before .args in
-    let p = c .before .before .before .before .before .before .before .before .before .before .before .pre in
+    let a = c .before .before .before .before .before .before .before .before .before .before .before .before .args in
+    let p = c .before .before .before .before .before .before .before .before .before .before .before .before .pre in
     let z = c .before .before .before .before .before .before .before .span-size in
     let k = c .before .before .before .before .before .before .label-symbol in
     let g = c .before .before .before .span-align8 in
@@ -50,8 +50,8 @@ off-step-requires c κs = search needs
 
 returns-2 : tie.Need-returns-2
 returns-2 c =
-    let a = c .before .before .before .before .before .before .before .before .before .args in
-    let p = c .before .before .before .before .before .before .before .before .before .pre in
+    let a = c .before .before .before .before .before .before .before .before .before .before .args in
+    let p = c .before .before .before .before .before .before .before .before .before .before .pre in
     let z = c .before .before .before .before .before .span-size in
     let k = c .before .before .before .before .label-symbol in
     c .off-step .ensures

@@ -11,18 +11,18 @@ use Rattle.blocks_places.proofs.place_spans.Statement.{statement}
 use Rattle.blocks_places.proofs.place_spans.Tie as tie
 
 abbrev Inv-loop : tie.InvT-loop
-Inv-loop order compiled symbols file table blocks places₀ ends₀ on₀ j₀ places ends on j = Walking order compiled file places₀ j ends on places
+Inv-loop order compiled symbols index file table blocks places₀ ends₀ on₀ j₀ places ends on j = Walking order compiled file places₀ j ends on places
 
 abbrev μ-loop : tie.MeasureT-loop
-μ-loop order compiled symbols file table blocks places₀ ends₀ on₀ j₀ places ends on j = LINES * blocks - j
+μ-loop order compiled symbols index file table blocks places₀ ends₀ on₀ j₀ places ends on j = LINES * blocks - j
 
 loop-holds : tie.Need-loop-holds Inv-loop μ-loop
 loop-holds c =
-    let a = c .before .before .before .before .args in
+    let a = c .before .before .before .before .before .args in
     walking-none (a .order) (now (a .compiled)) (now (a .file)) (now (a .places))
 
 mul-loop : tie.Need-mul-loop Inv-loop μ-loop
-mul-loop c = omega (arith, count-high (now (c .before .before .before .before .before .args .file)))
+mul-loop c = omega (arith, count-high (now (c .before .before .before .before .before .before .args .file)))
 
 line-code-requires : tie.Need-line-code-requires Inv-loop μ-loop
 line-code-requires c κs = search needs
@@ -38,11 +38,11 @@ array-read-step-of c = search needs
 
 step-of-requires : tie.Need-step-of-requires Inv-loop μ-loop
 step-of-requires c κs =
-    let a = c .before .before .before .before .before .before .before .args in
-    let p = c .before .before .before .before .before .before .before .pre in
+    let a = c .before .before .before .before .before .before .before .before .args in
+    let p = c .before .before .before .before .before .before .before .before .pre in
     let l = c .before .before .loop in
     let h : l .j < lineCount (now (a .file)) = omega arith in (
-      record { symbols = p .0; parsed = p .1; inside = h },
+      record { symbols = p .0; indexed = p .4; parsed = p .1; inside = h },
       walking-end-at (a .order) (now (a .compiled)) (now (a .file)) (now (a .places)) (l .j) (l .ends) (l .on) (l .places) (l .inv) (c .line-code .result) (c .line-code .ensures .0),
       l .inv .reach,
     )
@@ -55,8 +55,8 @@ same-length c = c .before .before .before .before .before .loop .inv .long
 
 returns : tie.Need-returns Inv-loop μ-loop
 returns c =
-    let a = c .before .before .before .before .before .before .before .before .before .before .args in
-    let p = c .before .before .before .before .before .before .before .before .before .before .pre in
+    let a = c .before .before .before .before .before .before .before .before .before .before .before .args in
+    let p = c .before .before .before .before .before .before .before .before .before .before .before .pre in
     let l = c .before .before .before .before .before .loop in
     let h : l .j < lineCount (now (a .file)) = omega arith in
     rw (c .line-block .ensures)
@@ -71,8 +71,8 @@ same-length-2 c = c .before .before .before .before .before .before .loop .inv .
 
 returns-2 : tie.Need-returns-2 Inv-loop μ-loop
 returns-2 c =
-    let a = c .before .before .before .before .before .before .before .before .before .before .before .args in
-    let p = c .before .before .before .before .before .before .before .before .before .before .before .pre in
+    let a = c .before .before .before .before .before .before .before .before .before .before .before .before .args in
+    let p = c .before .before .before .before .before .before .before .before .before .before .before .before .pre in
     let l = c .before .before .before .before .before .before .loop in
     let h : l .j < lineCount (now (a .file)) = omega arith in
     rw (c .line-block2 .ensures)
@@ -81,7 +81,7 @@ returns-2 c =
 
 store-place-requires : tie.Need-store-place-requires Inv-loop μ-loop
 store-place-requires c κs =
-    let a = c .before .before .before .before .before .before .before .before .before .before .before .args in
+    let a = c .before .before .before .before .before .before .before .before .before .before .before .before .args in
     let l = c .before .before .before .before .before .before .loop in
     let b = count-high (now (a .file)) in
     let m = l .inv .long in
@@ -95,15 +95,15 @@ array-write-ends : tie.Need-array-write-ends Inv-loop μ-loop
 array-write-ends c = search needs
 
 add-j : tie.Need-add-j Inv-loop μ-loop
-add-j c = omega (arith, count-high (now (c .before .before .before .before .before .before .before .before .before .before .before .before .before .before .args .file)))
+add-j c = omega (arith, count-high (now (c .before .before .before .before .before .before .before .before .before .before .before .before .before .before .before .args .file)))
 
 loop-less : tie.Need-loop-less Inv-loop μ-loop
 loop-less c = search needs
 
 loop-again : tie.Need-loop-again Inv-loop μ-loop
 loop-again c =
-    let a = c .before .before .before .before .before .before .before .before .before .before .before .before .before .before .args in
-    let p = c .before .before .before .before .before .before .before .before .before .before .before .before .before .before .pre in
+    let a = c .before .before .before .before .before .before .before .before .before .before .before .before .before .before .before .args in
+    let p = c .before .before .before .before .before .before .before .before .before .before .before .before .before .before .before .pre in
     let l = c .before .before .before .before .before .before .before .before .before .loop in
     let s = c .before .before .before .before .before .before .step-of in
     let k = c .before .before .before .before .before .before .before .line-code in
@@ -117,8 +117,8 @@ same-length-3 c = c .before .loop .inv .long
 
 returns-3 : tie.Need-returns-3 Inv-loop μ-loop
 returns-3 c =
-    let a = c .before .before .before .before .before .before .args in
-    let p = c .before .before .before .before .before .before .pre in
+    let a = c .before .before .before .before .before .before .before .args in
+    let p = c .before .before .before .before .before .before .before .pre in
     let l = c .before .loop in
     let h : lineCount (now (a .file)) ≤ l .j = omega arith in
     walking-end (a .order) (now (a .compiled)) (now (a .file)) (now (a .places)) (l .j) (l .ends) (l .on) (l .places) (l .inv) h

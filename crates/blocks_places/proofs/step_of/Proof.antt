@@ -20,8 +20,8 @@ both-requires c κs = search needs
 
 label-step-requires : tie.Need-label-step-requires
 label-step-requires c κs =
-    let a = c .before .before .before .before .before .before .args in
-    let p = c .before .before .before .before .before .before .pre in
+    let a = c .before .before .before .before .before .before .before .args in
+    let p = c .before .before .before .before .before .before .before .pre in
     let t = and-parts _ _ (sym (c .before .both .ensures) ∙ c .if1 .taken) in
     (p .0, p .1, sym (c .before .before .is-labelled .ensures) ∙ t .0, sym (p .2) ∙ t .1)
 
@@ -36,8 +36,8 @@ off-step-requires c κs = search needs
 
 returns-2 : tie.Need-returns-2
 returns-2 c =
-    let a = c .before .before .before .before .before .before .before .before .args in
-    let p = c .before .before .before .before .before .before .before .before .pre in
+    let a = c .before .before .before .before .before .before .before .before .before .args in
+    let p = c .before .before .before .before .before .before .before .before .before .pre in
     let f : (labelled (now (a .file)) (a .j) && reached (a .order) (now (a .compiled)) (now (a .file)) (a .j)) ≡ false =
     rw (← c .before .before .before .before .is-labelled .ensures, ← p .2) (sym (c .before .before .before .both .ensures) ∙ c .before .before .if1 .left) in
     c .off-step .ensures

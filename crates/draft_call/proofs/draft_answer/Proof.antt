@@ -29,11 +29,11 @@ open-requires c κs =
 enum-known-count : tie.Need-enum-known-count
 enum-known-count c = search needs
 
-append-draft-requires : tie.Need-append-draft-requires
-append-draft-requires c κs =
+append-text-requires : tie.Need-append-text-requires
+append-text-requires c κs =
     let o = c .before .before .before .before .before .before .before .before .before .before .«open» .ensures in
     let l = draft-limits _ _ _ _ _ (sym (c .before .before .before .before .before .before .before .before .before .before .before .before .before .before .breaks-draft-bounds .ensures) ∙ c .before .before .before .before .before .before .before .before .before .before .before .before .before .if1 .left) in
-    (laid-own _ _ _ _ (o .laid _ (c .before .before .before .before .count .given .1)), o .blocks _ (c .before .before .before .before .count .given .1), l .prelude-limit)
+    (laid-own _ _ _ _ (o .laid _ (c .before .before .before .before .count .given .1)), o .blocks _ (c .before .before .before .before .count .given .1), l .prelude-limit, omega (arith, l .table-size, c .before .before .before .before .before .before .before .before .before .before .«open» .kept .1 .1 .0))
 
 result-requires : tie.Need-result-requires
 result-requires c κs = search needs
@@ -52,7 +52,7 @@ returns-2 c =
     let a = c .before .before .before .before .before .before .before .before .before .before .before .before .before .before .before .before .before .before .before .before .before .before .before .before .before .before .args in
     let o = c .before .before .before .before .before .before .before .before .before .before .before .before .before .before .before .«open» .ensures in
     let t = c .before .before .before .before .before .before .before .before .before .count .given .1 in
-    let w = written-as _ _ _ _ _ _ (text-own _ _ _ _ (o .laid _ t) (now (a .prelude))) (c .before .before .before .before .append-draft .ensures) in
+    let w = written-as _ _ _ _ _ _ (text-own _ _ _ _ (o .laid _ t) (now (a .prelude))) (c .before .before .before .before .append-text .ensures) in
     answered-as _ _ _ _ _ (verdict-text (now (a .compiled)) (now (a .prelude)) (now (a .blocks)) _ _ _ (sym (c .before .before .before .before .before .before .before .before .before .before .before .before .before .before .before .before .before .before .before .breaks-draft-bounds .ensures) ∙ c .before .before .before .before .before .before .before .before .before .before .before .before .before .before .before .before .before .before .if1 .left) _ (o .verdict) _ t)
     (room-there _ _ _ _ _ w (omega (arith, c .before .if2 .taken, w .long)) (c .result .ensures))
 
@@ -79,7 +79,7 @@ returns-3 c =
     let a = c .before .before .before .before .before .before .before .before .before .before .before .before .before .before .before .before .before .before .before .before .before .before .before .before .before .before .args in
     let o = c .before .before .before .before .before .before .before .before .before .before .before .before .before .before .before .«open» .ensures in
     let t = c .before .before .before .before .before .before .before .before .before .count .given .1 in
-    let w = written-as _ _ _ _ _ _ (text-own _ _ _ _ (o .laid _ t) (now (a .prelude))) (c .before .before .before .before .append-draft .ensures) in
+    let w = written-as _ _ _ _ _ _ (text-own _ _ _ _ (o .laid _ t) (now (a .prelude))) (c .before .before .before .before .append-text .ensures) in
     answered-as _ _ _ _ _ (verdict-text (now (a .compiled)) (now (a .prelude)) (now (a .blocks)) _ _ _ (sym (c .before .before .before .before .before .before .before .before .before .before .before .before .before .before .before .before .before .before .before .breaks-draft-bounds .ensures) ∙ c .before .before .before .before .before .before .before .before .before .before .before .before .before .before .before .before .before .before .if1 .left) _ (o .verdict) _ t)
     (room-short _ _ _ _ _ w (omega (arith, c .before .if2 .left, w .long)) (c .refusal2 .ensures))
 
@@ -103,7 +103,7 @@ draft-answer-spec =
     returns
     open-requires
     enum-known-count
-    append-draft-requires
+    append-text-requires
     result-requires
     same-length
     same-length-2

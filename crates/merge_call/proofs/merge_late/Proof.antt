@@ -25,7 +25,7 @@ merge-symbols-requires c κs =
     let pre = c .before .before .before .before .before .before .before .before .before .before .before .before .before .before .before .before .before .before .before .before .before .before .pre in
     let search-late = c .before .before .before .before .before .before .before .before .before .search-late in
     let enum-told = c .before .before .before .before .before .enum-told in
-    (pre .0, search-late .ensures .moves (enum-told .given .1), pre .1, record { table-long = pre .2 .table-long; places-long = pre .2 .places-long; steps-long = rw (search-late .kept .1 .1 .1 .1 .1 .0) (pre .2 .steps-long); index-long = pre .2 .index-long })
+    (pre .0, search-late .ensures .moves (enum-told .given .1), pre .1, record { table-long = pre .2 .table-long; places-long = pre .2 .places-long; steps-long = rw (search-late .kept .1 .1 .1 .1 .1 .0) (pre .2 .steps-long); index-long = pre .2 .index-long }, pre .3)
 
 enum-known-block : tie.Need-enum-known-block
 enum-known-block c = search needs

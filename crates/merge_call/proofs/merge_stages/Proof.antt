@@ -1,6 +1,6 @@
--- 11 to 13; where none refuses, the late step. Assumes nothing.
+-- The index of A's symbols stands in its buffer for 11 to 13 and, where none refuses, for the late step and what follows. Assumes nothing.
 use denote.Ref.{now}
-use mathlib.Core.Path.{refl}
+use mathlib.Core.Path.{refl, _∙_}
 use Rattle.write_planned.specs.Held.{heldPlaces}
 use Rattle.merge_buffers.specs.Buffers.{blocksPart, placesPart}
 use lib.ListN.{length}
@@ -10,19 +10,28 @@ use borrow.Author.Needs.{needs}
 use Rattle.merge_call.proofs.merge_stages.Statement.{statement}
 use Rattle.merge_call.proofs.merge_stages.Tie as tie
 
+index-names-requires : tie.Need-index-names-requires
+index-names-requires c κs =
+    let pre = c .before .before .before .before .before .before .before .before .before .before .pre in
+    (pre .0 .assembled, pre .2 .index-long)
+
 line-up-requires : tie.Need-line-up-requires
-line-up-requires c κs = search needs
+line-up-requires c κs =
+    let pre = c .before .before .before .before .before .before .before .before .before .before .before .before .before .before .before .before .pre in
+    let index-names = c .before .before .before .before .before .index-names in
+    (pre .0, pre .2 .table-long, pre .2 .places-long, rw (index-names .kept .1 .1 .0) (pre .2 .index-long), index-names .ensures)
 
 enum-known-step : tie.Need-enum-known-step
 enum-known-step c = search needs
 
 merge-late-requires : tie.Need-merge-late-requires
 merge-late-requires c κs =
-    let args = c .before .before .before .before .before .before .before .before .before .before .before .before .before .before .before .before .before .before .before .before .args in
-    let pre = c .before .before .before .before .before .before .before .before .before .before .before .before .before .before .before .before .before .before .before .before .pre in
+    let args = c .before .before .before .before .before .before .before .before .before .before .before .before .before .before .before .before .before .before .before .before .before .before .before .before .before .args in
+    let pre = c .before .before .before .before .before .before .before .before .before .before .before .before .before .before .before .before .before .before .before .before .before .before .before .before .before .pre in
     let line-up = c .before .before .before .before .before .before .before .before .line-up in
     let step = c .before .before .before .before .before .before .step in
-    (stage-read (now (args .compiled)) (now (args .assembled)) (now (args .file)) (args .inputs) (blocksPart (now (args .table))) (placesPart (now (args .places))) (pre .0) _ (line-up .ensures) _ (step .given .1), pre .1, pre .2)
+    let index-names = c .before .before .before .before .before .before .before .before .before .before .before .before .before .before .index-names in
+    (stage-read (now (args .compiled)) (now (args .assembled)) (now (args .file)) (args .inputs) (blocksPart (now (args .table))) (placesPart (now (args .places))) (pre .0) _ (line-up .ensures) _ (step .given .1), pre .1, record { table-long = pre .2 .table-long; places-long = pre .2 .places-long; steps-long = pre .2 .steps-long; index-long = rw (index-names .kept .1 .1 .0) (pre .2 .index-long) }, index-names .ensures)
 
 enum-known-number : tie.Need-enum-known-number
 enum-known-number c = search needs
@@ -43,11 +52,14 @@ same-length-4 : tie.Need-same-length-4
 same-length-4 c = search needs
 
 same-length-5 : tie.Need-same-length-5
-same-length-5 c = search needs
+same-length-5 c =
+    let merge-late = c .before .before .before .before .before .before .before .before .before .before .merge-late in
+    let index-names = c .before .before .before .before .before .before .before .before .before .before .before .before .before .before .before .before .before .before .before .before .before .before .before .before .before .index-names in
+    merge-late .kept .1 .1 .1 .1 .1 .1 .1 .1 .1 .1 .1 .0 ∙ index-names .kept .1 .1 .0
 
 returns : tie.Need-returns
 returns c =
-    let args = c .before .before .before .before .before .before .before .before .before .before .before .before .before .before .before .before .before .before .before .before .before .before .before .before .before .before .before .before .before .before .before .args in
+    let args = c .before .before .before .before .before .before .before .before .before .before .before .before .before .before .before .before .before .before .before .before .before .before .before .before .before .before .before .before .before .before .before .before .before .before .before .before .args in
     let line-up = c .before .before .before .before .before .before .before .before .before .before .before .before .before .before .before .before .before .before .before .line-up in
     let step = c .before .before .before .before .before .before .before .before .before .before .before .before .before .before .before .before .before .step in
     let merge-late = c .before .before .before .before .before .before .before .before .before .before .merge-late in
@@ -59,9 +71,12 @@ same-length-6 c = search needs
 same-length-7 : tie.Need-same-length-7
 same-length-7 c = search needs
 
+same-length-8 : tie.Need-same-length-8
+same-length-8 c = search needs
+
 returns-2 : tie.Need-returns-2
 returns-2 c =
-    let args = c .before .before .before .before .before .before .before .before .before .before .before .before .before .before .before .before .args in
+    let args = c .before .before .before .before .before .before .before .before .before .before .before .before .before .before .before .before .before .before .before .before .before .args in
     let line-up = c .before .before .before .before .line-up in
     let number = c .before .before .number in
     let refusal = c .refusal in
@@ -71,6 +86,7 @@ pub merge-stages-spec : {M : Type 1} → statement M
 merge-stages-spec =
     tie.close
     (tie.spec
+    index-names-requires
     line-up-requires
     enum-known-step
     merge-late-requires
@@ -84,4 +100,5 @@ merge-stages-spec =
     returns
     same-length-6
     same-length-7
+    same-length-8
     returns-2)

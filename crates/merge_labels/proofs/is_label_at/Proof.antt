@@ -15,13 +15,13 @@ both-requires c κs = search needs
 
 returns : tie.Need-returns
 returns c =
-    let b = c .before .before .before .before .before .before .before .before in
+    let b = c .before .before .before .before .before .before .before .before .before in
     let a = b .args in
     c .both .ensures ∙ at-read (a .order) (now (a .assembled)) (now (a .label) ++ now (a .suffix)) (a .section) (a .value) _ (c .before .before .before .before .label-of .ensures .0) (c .before .before .before .if1 .taken)
 
 returns-2 : tie.Need-returns-2
 returns-2 c =
-    let b = c .before .before .before .before .before in
+    let b = c .before .before .before .before .before .before in
     let a = b .args in
     at-none (a .order) (now (a .assembled)) (now (a .label) ++ now (a .suffix)) (a .section) (a .value) _ (c .before .label-of .ensures .0) (c .if1 .left)
 

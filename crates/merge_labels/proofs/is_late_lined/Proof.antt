@@ -32,9 +32,9 @@ slice-aggregate-is-label-at-2 c = search needs
 
 is-label-at-requires : tie.Need-is-label-at-requires
 is-label-at-requires c κs =
-    let b = c .before .before .before .before .before .before .before .before .before .before in
+    let b = c .before .before .before .before .before .before .before .before .before .before .before in
     let a = b .args in
-    view-table (a .order) (now (a .assembled)) (a .view) (b .pre .0 .is) (b .pre .0 .tabled)
+    (view-table (a .order) (now (a .assembled)) (a .view) (b .pre .0 .is) (b .pre .0 .tabled), b .pre .3)
 
 both-requires : tie.Need-both-requires
 both-requires c κs = search needs
@@ -42,20 +42,20 @@ both-requires c κs = search needs
 returns : tie.Need-returns
 unfolding lateLabel lateLined text
 returns c =
-    let b = c .before .before .before .before .before .before .before .before .before .before .before .before in
+    let b = c .before .before .before .before .before .before .before .before .before .before .before .before .before in
     let a = b .args in
     c .both .ensures ∙ ap (λ (x : Bool). x && leb (a .start .value + a .size) (length (now (c .before .before .before .before .coded-contents .result)))) (c .before .is-label-at .ensures)
     ∙ late-read (a .order) (now (a .assembled)) (a .size) _ (a .start) (b .pre .1) (c .before .before .before .before .before .before .before .before .before .before .section .ensures ∙ view-section (a .order) (now (a .assembled)) (a .view) (b .pre .0 .is) LATE-RODATA (omega arith) (omega arith)) _ (c .before .before .before .before .coded-contents .ensures) (c .before .before .before .before .before .before .before .before .if1 .taken) (c .before .before .before .before .before .before .if2 .taken)
 
 returns-2 : tie.Need-returns-2
 returns-2 c =
-    let b = c .before .before .before .before .before .before in
+    let b = c .before .before .before .before .before .before .before in
     let a = b .args in
     late-elsewhere (a .order) (now (a .assembled)) (a .size) _ (a .start) (b .pre .1) (c .before .before .before .before .section .ensures ∙ view-section (a .order) (now (a .assembled)) (a .view) (b .pre .0 .is) LATE-RODATA (omega arith) (omega arith)) (c .if2 .left)
 
 returns-3 : tie.Need-returns-3
 returns-3 c =
-    let b = c .before .before .before .before in
+    let b = c .before .before .before .before .before in
     let a = b .args in
     late-absent (a .order) (now (a .assembled)) (a .size) _ (a .start) (b .pre .1) (c .before .before .section .ensures ∙ view-section (a .order) (now (a .assembled)) (a .view) (b .pre .0 .is) LATE-RODATA (omega arith) (omega arith)) (c .if1 .left)
 

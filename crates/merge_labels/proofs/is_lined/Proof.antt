@@ -19,56 +19,56 @@ line-code-requires c κs = search needs
 
 section-requires : tie.Need-section-requires
 section-requires c κs =
-    let b = c .before .before .before .before .before in
+    let b = c .before .before .before .before .before .before in
     let a = b .args in
     (omega (arith, c .line-code .ensures .0), omega (arith, c .line-code .ensures .0))
 
 span-label-requires : tie.Need-span-label-requires
 span-label-requires c κs =
-    let b = c .before .before .before .before .before .before .before in
+    let b = c .before .before .before .before .before .before .before .before in
     let a = b .args in
     let P = placesIn (now (a .places)) (lineCount (now (a .file))) in
     (b .pre .1 .parsed, b .pre .2)
 
 place-of-requires : tie.Need-place-of-requires
 place-of-requires c κs =
-    let b = c .before .before .before .before .before .before .before .before in
+    let b = c .before .before .before .before .before .before .before .before .before in
     let a = b .args in
     let P = placesIn (now (a .places)) (lineCount (now (a .file))) in
     laid-inside P (now (a .file)) (now (a .table)) (now (a .places)) (b .pre .1) (a .j) (b .pre .2)
 
 span-size-requires : tie.Need-span-size-requires
 span-size-requires c κs =
-    let b = c .before .before .before .before .before .before .before .before .before in
+    let b = c .before .before .before .before .before .before .before .before .before .before in
     let a = b .args in
     let P = placesIn (now (a .places)) (lineCount (now (a .file))) in
     (b .pre .1 .parsed, b .pre .2, b .pre .1 .fitting .labels (a .j) (b .pre .3))
 
-add-end : tie.Need-add-end
-add-end c = search needs
+add-span-end : tie.Need-add-span-end
+add-span-end c = search needs
 
 slice-aggregate-is-label-at : tie.Need-slice-aggregate-is-label-at
 slice-aggregate-is-label-at c = search needs
 
 is-label-at-requires : tie.Need-is-label-at-requires
 is-label-at-requires c κs =
-    let b = c .before .before .before .before .before .before .before .before .before .before .before in
+    let b = c .before .before .before .before .before .before .before .before .before .before .before .before in
     let a = b .args in
-    view-table (a .order) (now (a .assembled)) (a .view) (b .pre .0 .is) (b .pre .0 .tabled)
+    (view-table (a .order) (now (a .assembled)) (a .view) (b .pre .0 .is) (b .pre .0 .tabled), b .pre .4)
 
 slice-aggregate-is-label-at-2 : tie.Need-slice-aggregate-is-label-at-2
 slice-aggregate-is-label-at-2 c = search needs
 
 is-label-at-requires-2 : tie.Need-is-label-at-requires-2
 is-label-at-requires-2 c κs =
-    let b = c .before .before .before .before .before .before .before .before .before .before .before .before .before .before in
+    let b = c .before .before .before .before .before .before .before .before .before .before .before .before .before .before .before in
     let a = b .args in
-    view-table (a .order) (now (a .assembled)) (a .view) (b .pre .0 .is) (b .pre .0 .tabled)
+    (view-table (a .order) (now (a .assembled)) (a .view) (b .pre .0 .is) (b .pre .0 .tabled), b .pre .4)
 
 returns : tie.Need-returns
 unfolding text
 returns c =
-    let b = c .before .before .before .before .before .before .before .before .before .before .before .before .before .before .before in
+    let b = c .before .before .before .before .before .before .before .before .before .before .before .before .before .before .before .before in
     let a = b .args in
     let P = placesIn (now (a .places)) (lineCount (now (a .file))) in
     c .is-label-at2 .ensures ∙ lined-both (a .order) (now (a .assembled)) P (now (a .file)) (a .j) _ _ _ _ (c .before .before .before .before .before .before .before .before .before .section .ensures ∙ ap (sectionIn (a .view)) (c .before .before .before .before .before .before .before .before .before .before .line-code .ensures .0) ∙ view-section (a .order) (now (a .assembled)) (a .view) (b .pre .0 .is) (lineCode (a .j)) (omega arith) (omega arith)) (c .before .before .before .before .before .before .before .span-label .ensures) (c .before .before .before .before .before .before .place-of .ensures .0 ∙ laid-place P (now (a .file)) (now (a .table)) (now (a .places)) (b .pre .1) (a .j) (b .pre .2)) (c .before .before .before .before .before .span-size .ensures .0) (sym (c .before .before .before .is-label-at .ensures) ∙ c .before .before .if1 .taken)
@@ -76,7 +76,7 @@ returns c =
 returns-2 : tie.Need-returns-2
 unfolding text
 returns-2 c =
-    let b = c .before .before .before .before .before .before .before .before .before .before .before .before .before in
+    let b = c .before .before .before .before .before .before .before .before .before .before .before .before .before .before in
     let a = b .args in
     let P = placesIn (now (a .places)) (lineCount (now (a .file))) in
     lined-not (a .order) (now (a .assembled)) P (now (a .file)) (a .j) _ _ _ _ (c .before .before .before .before .before .before .before .section .ensures ∙ ap (sectionIn (a .view)) (c .before .before .before .before .before .before .before .before .line-code .ensures .0) ∙ view-section (a .order) (now (a .assembled)) (a .view) (b .pre .0 .is) (lineCode (a .j)) (omega arith) (omega arith)) (c .before .before .before .before .before .span-label .ensures) (c .before .before .before .before .place-of .ensures .0 ∙ laid-place P (now (a .file)) (now (a .table)) (now (a .places)) (b .pre .1) (a .j) (b .pre .2)) (c .before .before .before .span-size .ensures .0) (sym (c .before .is-label-at .ensures) ∙ c .if1 .left)
@@ -90,7 +90,7 @@ is-lined-spec =
     span-label-requires
     place-of-requires
     span-size-requires
-    add-end
+    add-span-end
     slice-aggregate-is-label-at
     is-label-at-requires
     slice-aggregate-is-label-at-2

@@ -17,33 +17,33 @@ use Rattle.merge_labels.proofs.label_fault.Statement.{statement}
 use Rattle.merge_labels.proofs.label_fault.Tie as tie
 
 abbrev Inv-loop : tie.InvT-loop
-Inv-loop order assembled view file table places blocks j₀ j =
+Inv-loop order assembled view index file table places blocks j₀ j =
     (j ≤ lineCount file) × (mislabelledAt order assembled (placesIn places (lineCount file)) file ≡ first (isMislabelled order assembled (placesIn places (lineCount file)) file) j (lineCount file))
 
 abbrev μ-loop : tie.MeasureT-loop
-μ-loop order assembled view file table places blocks j₀ j = LINES * blocks - j
+μ-loop order assembled view index file table places blocks j₀ j = LINES * blocks - j
 
 loop-holds : tie.Need-loop-holds Inv-loop μ-loop
 unfolding mislabelledAt
 loop-holds c = (omega arith, refl)
 
 mul-loop : tie.Need-mul-loop Inv-loop μ-loop
-mul-loop c = omega (arith, count-high (now (c .before .before .before .before .before .args .file)))
+mul-loop c = omega (arith, count-high (now (c .before .before .before .before .before .before .args .file)))
 
 is-mislabelled-requires : tie.Need-is-mislabelled-requires Inv-loop μ-loop
 is-mislabelled-requires c κs =
-    let b = c .before .before .before .before .before .before in
+    let b = c .before .before .before .before .before .before .before in
     let a = b .args in
     let l = c .before .loop in
     let h : l .j < lineCount (now (a .file)) = omega arith in
-    (b .pre .0, b .pre .1, h)
+    (b .pre .0, b .pre .1, h, b .pre .3)
 
 line-block-requires : tie.Need-line-block-requires Inv-loop μ-loop
 line-block-requires c κs = search needs
 
 returns : tie.Need-returns Inv-loop μ-loop
 returns c =
-    let b = c .before .before .before .before .before .before .before .before .before in
+    let b = c .before .before .before .before .before .before .before .before .before .before in
     let a = b .args in
     let P = placesIn (now (a .places)) (lineCount (now (a .file))) in
     let l = c .before .before .before .before .loop in
@@ -51,14 +51,14 @@ returns c =
     ap At (c .line-block .ensures) ∙ fault-here (a .order) (now (a .assembled)) P (now (a .file)) (l .j) (l .inv .1) h (sym (c .before .before .is-mislabelled .ensures) ∙ c .before .if1 .taken)
 
 add-j : tie.Need-add-j Inv-loop μ-loop
-add-j c = omega (arith, count-high (now (c .before .before .before .before .before .before .before .before .args .file)))
+add-j c = omega (arith, count-high (now (c .before .before .before .before .before .before .before .before .before .args .file)))
 
 loop-less : tie.Need-loop-less Inv-loop μ-loop
 loop-less c = search needs
 
 loop-again : tie.Need-loop-again Inv-loop μ-loop
 loop-again c =
-    let b = c .before .before .before .before .before .before .before .before in
+    let b = c .before .before .before .before .before .before .before .before .before in
     let a = b .args in
     let P = placesIn (now (a .places)) (lineCount (now (a .file))) in
     let l = c .before .before .before .loop in
@@ -67,7 +67,7 @@ loop-again c =
 
 returns-2 : tie.Need-returns-2 Inv-loop μ-loop
 returns-2 c =
-    let b = c .before .before .before .before .before .before in
+    let b = c .before .before .before .before .before .before .before in
     let a = b .args in
     let P = placesIn (now (a .places)) (lineCount (now (a .file))) in
     let l = c .before .loop in

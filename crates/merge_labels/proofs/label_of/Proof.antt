@@ -8,34 +8,34 @@ use borrow.Author.Needs.{needs}
 use Rattle.merge_labels.proofs.label_of.Statement.{statement}
 use Rattle.merge_labels.proofs.label_of.Tie as tie
 
-joined-symbol-requires : tie.Need-joined-symbol-requires
-joined-symbol-requires c κs = search needs
+symbol-joined-requires : tie.Need-symbol-joined-requires
+symbol-joined-requires c κs = search needs
 
 symbol-at-requires : tie.Need-symbol-at-requires
 symbol-at-requires c κs =
-    let b = c .before .before .before .before .before in
+    let b = c .before .before .before .before .before .before in
     let a = b .args in
-    (b .pre .tabled, table-at (a .order) (now (a .assembled)) (a .table) (b .pre), omega (arith, c .if1 .taken, table-count (a .order) (now (a .assembled)) (a .table) (b .pre)))
-
-cast-t11 : tie.Need-cast-t11
-cast-t11 c = search needs
+    (b .pre .0 .tabled, table-at (a .order) (now (a .assembled)) (a .table) (b .pre .0), omega (arith, c .if1 .taken, table-count (a .order) (now (a .assembled)) (a .table) (b .pre .0)))
 
 cast-t12 : tie.Need-cast-t12
 cast-t12 c = search needs
 
+cast-t13 : tie.Need-cast-t13
+cast-t13 c = search needs
+
 returns : tie.Need-returns
 returns c =
-    let b = c .before .before .before .before .before .before .before .before in
+    let b = c .before .before .before .before .before .before .before .before .before in
     let a = b .args in
-    (label-there (a .order) (now (a .assembled)) (now (a .label) ++ now (a .suffix)) _ _ (c .before .before .before .before .joined-symbol .ensures) (table-count (a .order) (now (a .assembled)) (a .table) (b .pre)) _ (c .before .before .before .if1 .taken) (c .before .before .symbol-at .ensures), omega arith)
+    (label-there (a .order) (now (a .assembled)) (now (a .label) ++ now (a .suffix)) _ _ (c .before .before .before .before .symbol-joined .ensures) (table-count (a .order) (now (a .assembled)) (a .table) (b .pre .0)) _ (c .before .before .before .if1 .taken) (c .before .before .symbol-at .ensures), omega arith)
 
 returns-2 : tie.Need-returns-2
 returns-2 c =
-    let b = c .before .before .before .before .before in
+    let b = c .before .before .before .before .before .before in
     let a = b .args in
-    (label-none (a .order) (now (a .assembled)) (now (a .label) ++ now (a .suffix)) _ _ (c .before .joined-symbol .ensures) (table-count (a .order) (now (a .assembled)) (a .table) (b .pre)) (c .if1 .left), omega arith)
+    (label-none (a .order) (now (a .assembled)) (now (a .label) ++ now (a .suffix)) _ _ (c .before .symbol-joined .ensures) (table-count (a .order) (now (a .assembled)) (a .table) (b .pre .0)) (c .if1 .left), omega arith)
 
 pub label-of-spec : {M : Type 1} → statement M
 label-of-spec =
     tie.close
-    (tie.spec joined-symbol-requires symbol-at-requires cast-t11 cast-t12 returns returns-2)
+    (tie.spec symbol-joined-requires symbol-at-requires cast-t12 cast-t13 returns returns-2)

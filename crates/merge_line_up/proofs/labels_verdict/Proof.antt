@@ -24,7 +24,7 @@ finding-verdict-requires-2 c κs = search needs
 
 returns : tie.Need-returns
 returns c =
-    let b = c .before .before .before .before .before .before .before .before .before .before in
+    let b = c .before .before .before .before .before .before .before .before .before .before .before in
     let a = b .args in
     let P = placesIn (now (a .places)) (lineCount (now (a .file))) in
     labels-13 (a .order) (now (a .assembled)) P (now (a .file)) (a .size) _ (c .before .before .before .before .before .label-fault .ensures) _ (c .before .before .before .before .finding-verdict .ensures) (c .before .before .enum-told .given .1) _ (c .before .late-label-fault .ensures) _ (c .finding-verdict2 .ensures)
@@ -34,7 +34,7 @@ enum-told-2 c = search needs
 
 returns-2 : tie.Need-returns-2
 returns-2 c =
-    let b = c .before .before .before .before .before .before .before .before in
+    let b = c .before .before .before .before .before .before .before .before .before in
     let a = b .args in
     let P = placesIn (now (a .places)) (lineCount (now (a .file))) in
     labels-12 (a .order) (now (a .assembled)) P (now (a .file)) (a .size) _ (c .before .before .before .label-fault .ensures) _ (c .before .before .finding-verdict .ensures) _ _ _ (c .enum-told2 .given .1)

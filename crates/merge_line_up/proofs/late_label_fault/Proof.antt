@@ -14,13 +14,13 @@ expected-requires c κs = search needs
 
 returns : tie.Need-returns
 returns c =
-    let b = c .before .before .before .before in
+    let b = c .before .before .before .before .before in
     let a = b .args in
     c .expected .ensures ∙ fault-step (a .order) (now (a .assembled)) (a .size) _ (c .before .is-late-lined .ensures) (c .before .before .if1 .taken)
 
 returns-2 : tie.Need-returns-2
 returns-2 c =
-    let b = c .before .before in
+    let b = c .before .before .before in
     let a = b .args in
     fault-still (a .order) (now (a .assembled)) (a .size) (c .if1 .left)
 

@@ -18,17 +18,17 @@ span-ends-requires c κs = search needs
 
 missing-verdict-requires : tie.Need-missing-verdict-requires
 missing-verdict-requires c κs =
-    let b = c .before .before .before .before .before .before .before in
+    let b = c .before .before .before .before .before .before .before .before in
     let a = b .args in
     let P = placesIn (now (a .places)) (lineCount (now (a .file))) in
-    (b .pre, c .span-ends .ensures, runs-is P (now (a .file)) _ (c .before .late-length .ensures .0))
+    (b .pre .0, c .span-ends .ensures, runs-is P (now (a .file)) _ (c .before .late-length .ensures .0))
 
 enum-known-missing : tie.Need-enum-known-missing
 enum-known-missing c = search needs
 
 returns : tie.Need-returns
 returns c =
-    let b = c .before .before .before .before .before .before .before .before .before .before .before in
+    let b = c .before .before .before .before .before .before .before .before .before .before .before .before in
     let a = b .args in
     let P = placesIn (now (a .places)) (lineCount (now (a .file))) in
     line-up-11 (a .inputs .order) (now (a .compiled)) (now (a .assembled)) P (now (a .file)) _ (c .before .before .before .missing-verdict .ensures) _ _ _ (c .before .missing .given .1)
@@ -44,23 +44,23 @@ slice-aggregate-label-of-2 c = search needs
 
 label-of-requires : tie.Need-label-of-requires
 label-of-requires c κs =
-    let b = c .before .before .before .before .before .before .before .before .before .before .before .before .before .before in
+    let b = c .before .before .before .before .before .before .before .before .before .before .before .before .before .before .before in
     let a = b .args in
-    view-table (a .inputs .order) (now (a .assembled)) (a .inputs .assembled) (b .pre .assembled .is) (b .pre .assembled .tabled)
+    (view-table (a .inputs .order) (now (a .assembled)) (a .inputs .assembled) (b .pre .0 .assembled .is) (b .pre .0 .assembled .tabled), b .pre .1)
 
 labels-verdict-requires : tie.Need-labels-verdict-requires
 unfolding lateLabel text
 labels-verdict-requires c κs =
-    let b = c .before .before .before .before .before .before .before .before .before .before .before .before .before .before .before in
+    let b = c .before .before .before .before .before .before .before .before .before .before .before .before .before .before .before .before in
     let a = b .args in
-    (b .pre .assembled, b .pre .laid, b .pre .many, c .label-of .ensures .0, c .label-of .ensures .1, c .before .before .before .before .before .before .before .before .before .late-length .ensures .1)
+    (b .pre .0 .assembled, b .pre .0 .laid, b .pre .0 .many, c .label-of .ensures .0, c .label-of .ensures .1, c .before .before .before .before .before .before .before .before .before .late-length .ensures .1, b .pre .1)
 
 enum-known-labels : tie.Need-enum-known-labels
 enum-known-labels c = search needs
 
 returns-2 : tie.Need-returns-2
 returns-2 c =
-    let b = c .before .before .before .before .before .before .before .before .before .before .before .before .before .before .before .before .before .before .before in
+    let b = c .before .before .before .before .before .before .before .before .before .before .before .before .before .before .before .before .before .before .before .before in
     let a = b .args in
     let P = placesIn (now (a .places)) (lineCount (now (a .file))) in
     line-up-12 (a .inputs .order) (now (a .compiled)) (now (a .assembled)) P (now (a .file)) _ (c .before .before .before .before .before .before .before .before .before .before .before .missing-verdict .ensures) (c .before .before .before .before .before .before .before .before .before .enum-told .given .1) _ (c .before .before .before .before .before .before .before .before .before .before .before .before .before .late-length .ensures .0) _ (c .before .before .before .labels-verdict .ensures) _ _ _ (c .before .labels .given .1)
@@ -68,19 +68,19 @@ returns-2 c =
 enum-told-2 : tie.Need-enum-told-2
 enum-told-2 c = search needs
 
-cast-t30 : tie.Need-cast-t30
-cast-t30 c = search needs
+cast-t31 : tie.Need-cast-t31
+cast-t31 c = search needs
 
-mul-t31 : tie.Need-mul-t31
-mul-t31 c = search needs
+mul-t32 : tie.Need-mul-t32
+mul-t32 c = search needs
 
-array-read-t34 : tie.Need-array-read-t34
-array-read-t34 c = search needs
+array-read-t35 : tie.Need-array-read-t35
+array-read-t35 c = search needs
 
 returns-3 : tie.Need-returns-3
 unfolding lateLabel text
 returns-3 c =
-    let b = c .before .before .before .before .before .before .before .before .before .before .before .before .before .before .before .before .before .before in
+    let b = c .before .before .before .before .before .before .before .before .before .before .before .before .before .before .before .before .before .before .before in
     let a = b .args in
     let P = placesIn (now (a .places)) (lineCount (now (a .file))) in
     line-up-all (a .inputs .order) (now (a .compiled)) (now (a .assembled)) P (now (a .file)) _ (c .before .before .before .before .before .before .before .before .before .before .missing-verdict .ensures) (c .before .before .before .before .before .before .before .before .enum-told .given .1) _ (c .before .before .before .before .before .before .before .before .before .before .before .before .late-length .ensures .0) _ (c .before .before .labels-verdict .ensures) (c .enum-told2 .given .1) _ (c .before .before .before .label-of .ensures .0) _ (c .before .before .before .before .before .before .before .before .before .before .before .span-ends .ensures)
@@ -102,7 +102,7 @@ line-up-spec =
     enum-known-labels
     returns-2
     enum-told-2
-    cast-t30
-    mul-t31
-    array-read-t34
+    cast-t31
+    mul-t32
+    array-read-t35
     returns-3)

@@ -3,7 +3,7 @@ use Rattle.base_index.specs.Index.{hashOf}
 use Rattle.base_index.proofs.Index.{other-hash}
 use Rattle.elf_symbols.specs.Symbols.{symbolCount, isSymbolNamed}
 use Rattle.elf_symbols.proofs.Symbols.{named-read}
-use Rattle.symbols_glabels.proofs.Names.{named-hash}
+use Rattle.elf_index.proofs.Names.{named-hash}
 use native.Mathlib.Omega.{arith}
 use mathlib.Core.Path.{sym, _∙_}
 use denote.Ref.{now}

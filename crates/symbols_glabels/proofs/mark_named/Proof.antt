@@ -6,11 +6,11 @@ use Rattle.base_index.proofs.Index.{next-far}
 use Rattle.elf_symbols.specs.Symbols.{symbolCount, isSymbolNamed}
 use Rattle.elf_symbols.proofs.Symbols.{table-count, names-up, names-inside, entries-in}
 use Rattle.symbols_glabels.proofs.Marks.{Walked, walked-none, walked-next, walked-stop, walked-end, uniform-named}
-use Rattle.symbols_glabels.proofs.Names.{named-hash}
+use Rattle.elf_index.proofs.Names.{named-hash}
 use borrow.Author.Needs.{needs}
 use native.Mathlib.Omega.{arith}
-use Prim.Native.Nat.{ℕ, _-_}
-use mathlib.Core.Path.{_≡_, refl, ap, _∙_}
+use Prim.Native.Nat.{_-_}
+use mathlib.Core.Path.{_≡_, refl, _∙_}
 use denote.Ref.{now}
 use Rattle.symbols_glabels.proofs.mark_named.Statement.{statement}
 use Rattle.symbols_glabels.proofs.mark_named.Tie as tie
@@ -37,7 +37,8 @@ loop-holds : tie.Need-loop-holds Inv-loop μ-loop
 loop-holds c =
     let b = c .before .before .before .before .before .before .before in
     let a = b .args in
-    let e : c .head-of .result ≡ headIn SYMBOL_LIMIT (now (a .index)) (bucketOf (hashOf (now (a .name)))) = c .head-of .ensures .0 ∙ ap (λ (h : ℕ). headIn SYMBOL_LIMIT (now (a .index)) (bucketOf h)) (c .before .hash-of .ensures) in
+    let e : c .head-of .result ≡ headIn SYMBOL_LIMIT (now (a .index)) (bucketOf (symbolCount (a .order) (now (a .assembled))) (hashOf (now (a .name)))) =
+    rw (c .head-of .ensures .0, table-count (a .order) (now (a .assembled)) (a .symbols) (b .pre .0), c .before .hash-of .ensures) in
     rw e (walked-none (isSymbolNamed (a .order) (now (a .assembled)) (now (a .name))) (a .put) (hashOf (now (a .name))) (now (a .index)) (symbolCount (a .order) (now (a .assembled))) SYMBOL_LIMIT (now (a .marks))
     (named-hash (a .order) (now (a .assembled)) (now (a .name)) (now (a .index)) (b .pre .1)) (b .pre .1 .indexed))
 

@@ -38,7 +38,7 @@ loop-again c =
     let q = c .before .before .before .before .before .before .before .before .before .before .before .before .before .pre in
     let w = c .before .before .hold-name in (
       omega arith,
-      w .kept .1 .1 .1 .1 .1 .1 .1 .1 .1 .0 ∙ l .inv .1,
+      w .kept .1 .1 .1 .1 .1 .1 .1 .1 .1 .1 .0 ∙ l .inv .1,
       names-next _ _ (l .holders) _ (l .p) (omega (arith, q .2, l .inv .1)) (w .ensures) (l .inv .2),
     )
 

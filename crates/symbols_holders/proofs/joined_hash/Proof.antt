@@ -2,7 +2,7 @@
 use denote.Ref.{now}
 use borrow.Author.Needs.{needs}
 use Rattle.statics_table.specs.Statics.{countTail}
-use Rattle.symbols_holders.proofs.Hashes.{hash-joined}
+use Rattle.base_index.proofs.Hashes.{hash-joined}
 use Rattle.symbols_holders.proofs.joined_hash.Statement.{statement}
 use Rattle.symbols_holders.proofs.joined_hash.Tie as tie
 

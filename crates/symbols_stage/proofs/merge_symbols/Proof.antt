@@ -20,7 +20,7 @@ merge-statics-requires c κs =
     let pre = c .before .before .before .before .before .before .before .before .before .before .before .before .before .before .before .before .before .pre in
     let take-symbols = c .before .before .before .before .before .before .before .before .take-symbols in
     let enum-told = c .before .before .before .before .enum-told in
-    stage-statics (now (args .compiled)) (now (args .assembled)) (now (args .file)) (args .stage) (args .manner) (now (args .table)) (now (args .places)) (now (args .steps)) (now (args .index)) (pre .0) (pre .1) (pre .3) _ _ (take-symbols .ensures) (enum-told .given .1) (pre .2)
+    stage-statics (now (args .compiled)) (now (args .assembled)) (now (args .file)) (args .stage) (args .manner) (now (args .table)) (now (args .places)) (now (args .steps)) (now (args .index)) (pre .0) (pre .1) (pre .3) _ _ (take-symbols .ensures) (enum-told .given .1) (pre .2) (pre .4)
 
 enum-known-number : tie.Need-enum-known-number
 enum-known-number c = search needs

@@ -7,8 +7,8 @@ use Prim.Native.Nat.{ℕ}
 use mathlib.Core.Path.{ap, _∙_}
 use denote.Ref.{now}
 use borrow.Author.Needs.{needs}
-use Rattle.symbols_glabels.proofs.put_name.Statement.{statement}
-use Rattle.symbols_glabels.proofs.put_name.Tie as tie
+use Rattle.elf_index.proofs.put_name.Statement.{statement}
+use Rattle.elf_index.proofs.put_name.Tie as tie
 
 symbol-name-requires : tie.Need-symbol-name-requires
 symbol-name-requires c κs = search needs

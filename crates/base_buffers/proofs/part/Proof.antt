@@ -2,9 +2,9 @@
 use borrow.Author.Needs.{needs}
 use mathlib.Core.Path.{refl}
 use denote.Ref.{now}
-use Rattle.merge_buffers.proofs.Parts.{part-lent}
-use Rattle.merge_buffers.proofs.part.Statement.{statement}
-use Rattle.merge_buffers.proofs.part.Tie as tie
+use Rattle.base_buffers.proofs.Parts.{part-lent}
+use Rattle.base_buffers.proofs.part.Statement.{statement}
+use Rattle.base_buffers.proofs.part.Tie as tie
 
 add-end : tie.Need-add-end
 add-end c = search needs

@@ -8,7 +8,7 @@ use lib.ListN.{length, take, drop}
 use lib.Seq.{drop-drop, take-take}
 use Rattle.base_lists.specs.Windows.{spliced}
 use Rattle.base_lists.proofs.Windows.{part-of-part, length-part, length-spliced, take-spliced, within-spliced, within-read}
-use Rattle.merge_buffers.specs.Buffers.{partAt, frontOf, KeptBefore}
+use Rattle.base_buffers.specs.Parts.{partAt, frontOf, KeptBefore}
 
 part-front : (l : List ℕ) (at p n : ℕ) → p + n ≤ at → partAt p n (frontOf at l) ≡ partAt p n l
 unfolding partAt frontOf

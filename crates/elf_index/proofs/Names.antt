@@ -15,7 +15,7 @@ use Rattle.base_index.specs.Index.{hashPlace, hashOf, hashIn, Built}
 use Rattle.base_index.proofs.Table.{word-long, hash-same, hash-other}
 use Rattle.base_index.proofs.Index.{Implies}
 use Rattle.elf_symbols.specs.Symbols.{symbolCount, symbolName, isSymbolNamed}
-use Rattle.symbols_glabels.specs.Words.{SymbolIndex}
+use Rattle.elf_index.specs.Index.{SymbolIndex}
 
 -- the first i hashes are put
 pub record Hashed (o : ByteOrder) (F : List ℕ) (i : ℕ) (before after : List ℕ) : Type 0 where
