@@ -37,7 +37,7 @@ extern "C" {
 #define DAPHULLE_PATH_LIMIT 255
 
 /* The least bytes of the working buffers of a draft: `table` and `places`. */
-#define DAPHULLE_BLOCK_TABLE 49152
+#define DAPHULLE_OPEN_TABLE 98304
 #define DAPHULLE_PLACE_TABLE 32768
 
 /* The least bytes of the working buffers of a merge: `table`, `places`, `steps`
@@ -160,7 +160,7 @@ static inline struct daphulle_outcome daphulle_draft_job(const struct daphulle_j
                           job->prelude.start, job->prelude.length,
                           job->blocks.start, job->blocks.length,
                           job->out, job->out_length,
-                          work->table, DAPHULLE_BLOCK_TABLE,
+                          work->table, DAPHULLE_OPEN_TABLE,
                           work->places, DAPHULLE_PLACE_TABLE);
 }
 

@@ -6,7 +6,7 @@
 pub const FILE_LIMIT: usize = 1_048_576;
 
 /// The least length of a draft's working buffer `table` (docs/SIZES.md).
-pub const BLOCK_TABLE: usize = 49_152;
+pub const OPEN_TABLE: usize = 98_304;
 /// The least length of a draft's working buffer `places`.
 pub const PLACE_TABLE: usize = 32_768;
 

@@ -146,7 +146,7 @@ pub fn draft_within(
     prelude: &[u8],
     blocks: &[u8],
 ) -> Result<Vec<u8>, Error> {
-    let mut table = vec![0; call::BLOCK_TABLE];
+    let mut table = vec![0; call::OPEN_TABLE];
     let mut places = vec![0; call::PLACE_TABLE];
     let asked = Asked::Draft(Draft {
         compiled,

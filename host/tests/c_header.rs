@@ -106,7 +106,7 @@ fn the_header_has_the_numbers_of_the_library() {
         ("sizeof(struct daphulle_work)".into(), work),
         ("DAPHULLE_FILE_LIMIT".into(), call::FILE_LIMIT),
         ("DAPHULLE_PATH_LIMIT".into(), call::PATH_LIMIT),
-        ("DAPHULLE_BLOCK_TABLE".into(), call::BLOCK_TABLE),
+        ("DAPHULLE_OPEN_TABLE".into(), call::OPEN_TABLE),
         ("DAPHULLE_PLACE_TABLE".into(), call::PLACE_TABLE),
         ("DAPHULLE_BLOCK_BUFFER".into(), call::BLOCK_BUFFER),
         ("DAPHULLE_PLACE_BUFFER".into(), call::PLACE_BUFFER),

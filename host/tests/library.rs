@@ -6,7 +6,7 @@ use common::{Case, DRAFT, block, debug_section, known_case, known_merge, made, o
 use daphulle::{
     Answer, ConvertStatics, Error, Merge, Number, Object,
     call::{
-        BLOCK_BUFFER, BLOCK_TABLE, FILE_LIMIT, INDEX_BUFFER, MergeBuffers, MergeInputs, Outcome,
+        BLOCK_BUFFER, OPEN_TABLE, FILE_LIMIT, INDEX_BUFFER, MergeBuffers, MergeInputs, Outcome,
         PLACE_BUFFER, PLACE_TABLE, STEP_BUFFER, draft_into, merge_into,
     },
     draft, draft_within, merge, merge_within,
@@ -73,16 +73,16 @@ fn the_call_clears_its_buffers() {
     let rooms = [0, 1, DRAFT.len() - 1, DRAFT.len(), DRAFT.len() + 100];
     let tables = [
         (0, 0),
-        (BLOCK_TABLE - 1, PLACE_TABLE),
-        (BLOCK_TABLE, PLACE_TABLE - 1),
-        (BLOCK_TABLE, PLACE_TABLE),
-        (BLOCK_TABLE + 5, PLACE_TABLE + 5),
+        (OPEN_TABLE - 1, PLACE_TABLE),
+        (OPEN_TABLE, PLACE_TABLE - 1),
+        (OPEN_TABLE, PLACE_TABLE),
+        (OPEN_TABLE + 5, PLACE_TABLE + 5),
     ];
     for room in rooms {
         for (table, places) in tables {
             let mut out = vec![0xa5; room];
             let (mut table, mut places) = (vec![0x5a; table], vec![0xff; places]);
-            let enough = table.len() >= BLOCK_TABLE && places.len() >= PLACE_TABLE;
+            let enough = table.len() >= OPEN_TABLE && places.len() >= PLACE_TABLE;
             let outcome = draft_into(
                 &compiled,
                 &prelude,

@@ -121,7 +121,7 @@ fn the_limits_are_those_of_the_library() {
 #[test]
 fn the_working_buffers_are_those_of_the_library() {
     let known = [
-        ("BLOCK_TABLE", call::BLOCK_TABLE),
+        ("OPEN_TABLE", call::OPEN_TABLE),
         ("PLACE_TABLE", call::PLACE_TABLE),
         ("BLOCK_BUFFER", call::BLOCK_BUFFER),
         ("PLACE_BUFFER", call::PLACE_BUFFER),

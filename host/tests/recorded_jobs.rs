@@ -83,7 +83,7 @@ fn the_recorded_drafts() {
         let [compiled, prelude, blocks] =
             [compiled, prelude, blocks].map(|length| take(rest, length));
         let mut out = vec![0; room];
-        let mut table = vec![0; call::BLOCK_TABLE];
+        let mut table = vec![0; call::OPEN_TABLE];
         let mut places = vec![0; call::PLACE_TABLE];
         let outcome =
             call::draft_into(compiled, prelude, blocks, &mut out, &mut table, &mut places);

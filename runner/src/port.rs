@@ -6,7 +6,7 @@ use crate::{
     random::Random,
 };
 use daphulle::call::{
-    BLOCK_BUFFER, BLOCK_TABLE, INDEX_BUFFER, MergeBuffers, MergeInputs, Outcome, PLACE_BUFFER,
+    BLOCK_BUFFER, OPEN_TABLE, INDEX_BUFFER, MergeBuffers, MergeInputs, Outcome, PLACE_BUFFER,
     PLACE_TABLE, STEP_BUFFER, draft_into, merge_into,
 };
 
@@ -38,7 +38,7 @@ const EDGE: usize = 64;
 /// The least lengths of a call's working buffers.
 pub fn least(kind: Kind) -> &'static [usize] {
     match kind {
-        Kind::Draft => &[BLOCK_TABLE, PLACE_TABLE],
+        Kind::Draft => &[OPEN_TABLE, PLACE_TABLE],
         Kind::Merge => &[BLOCK_BUFFER, PLACE_BUFFER, STEP_BUFFER, INDEX_BUFFER],
     }
 }

@@ -4,7 +4,7 @@
 #include "expect.h"
 
 static struct bytes compiled, prelude, blocks, text;
-static uint8_t out[4096], table[DAPHULLE_BLOCK_TABLE], places[DAPHULLE_PLACE_TABLE];
+static uint8_t out[4096], table[DAPHULLE_OPEN_TABLE], places[DAPHULLE_PLACE_TABLE];
 static struct daphulle_work work;
 
 /* The k-th length at the front of a case. */
@@ -49,7 +49,7 @@ int main(int argc, char **argv) {
     expect("the job is accepted", r.number == DAPHULLE_ACCEPTED && r.object == DAPHULLE_NONE && r.place == 0);
     expect("the job is the text", r.length == text.length && memcmp(out, text.start, text.length) == 0);
     expect("what a draft needs of the work area is clear",
-           is_zero(work.table, DAPHULLE_BLOCK_TABLE) && is_zero(work.places, DAPHULLE_PLACE_TABLE));
+           is_zero(work.table, DAPHULLE_OPEN_TABLE) && is_zero(work.places, DAPHULLE_PLACE_TABLE));
 
     r = call(51, sizeof out, sizeof table);
     expect("a short object is refused", is_refusal(r, DAPHULLE_FILE_HEADER, DAPHULLE_COMPILED, 51));
