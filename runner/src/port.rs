@@ -6,7 +6,7 @@ use crate::{
     random::Random,
 };
 use daphulle::call::{
-    BLOCK_BUFFER, OPEN_TABLE, INDEX_BUFFER, MergeBuffers, MergeInputs, Outcome, PLACE_BUFFER,
+    BLOCK_BUFFER, INDEX_BUFFER, MergeBuffers, MergeInputs, OPEN_TABLE, Outcome, PLACE_BUFFER,
     PLACE_TABLE, STEP_BUFFER, draft_into, merge_into,
 };
 

@@ -10,28 +10,48 @@ use crate::{
 use oracle::{Answer, Shell, run};
 use std::{hint::black_box, io, panic, time::Instant};
 
-/// Blocks, symbols in all, and lines of assembly in each block.
+/// Blocks, symbols in all, and lines of assembly in each block, of one length or of many.
 #[derive(Clone, Copy)]
 struct Size {
     blocks: usize,
     symbols: usize,
     lines: usize,
+    mixed: bool,
 }
+
+/// Lines as sources have them.
+const MIXED: [&str; 12] = [
+    "addiu $sp, $sp, -0x28",
+    "lui $v0, %hi(D_80145C20)",
+    "nop",
+    "sw $ra, 0x1C($sp)",
+    "lw $v0, %lo(D_80145C20)($v0)",
+    ".L80012F40:",
+    "jal func_80023D88",
+    "beqz $v0, .L80012F40 # no parcel",
+    "andi $t6, $a0, 0xFF",
+    "/* 013F5C 80012F5C 3C018014 */ lui $at, %hi(jtbl_8014A2B8)",
+    "jr $ra",
+    "addu $v0, $t6, $zero",
+];
 
 const SMALL: Size = Size {
     blocks: 10,
     symbols: 40,
     lines: 10,
+    mixed: false,
 };
 const TYPICAL: Size = Size {
     blocks: 128,
     symbols: 512,
     lines: 30,
+    mixed: false,
 };
 const LARGEST: Size = Size {
     blocks: 1024,
     symbols: 4096,
     lines: 38,
+    mixed: false,
 };
 
 /// A job of this size: each block has a span in .text and one in .data, and symbols stand in the
@@ -65,7 +85,10 @@ fn made(size: Size) -> Job {
         }
         blocks += "rodata=\nbss=\nglabel=routine\njtbl=0\n";
         for line in 0..size.lines {
-            blocks += &format!("asm=lw $v0, %lo(t{line:03})\n");
+            blocks += &match size.mixed {
+                true => format!("asm={}\n", MIXED[(5 * block + line) % MIXED.len()]),
+                false => format!("asm=lw $v0, %lo(t{line:03})\n"),
+            };
         }
         blocks += "end=\n";
     }
@@ -185,6 +208,17 @@ fn drafts(rounds: usize, part: &str) -> io::Result<()> {
         ("typical".into(), TYPICAL),
         ("largest".into(), LARGEST),
     ];
+    for (name, size) in rows.clone() {
+        rows.push((
+            format!("{name}, mixed lines"),
+            Size {
+                // A block file has at most 1,048,576 bytes.
+                lines: size.lines.min(30),
+                mixed: true,
+                ..size
+            },
+        ));
+    }
     for factor in [1, 2, 4, 8] {
         let symbols = 512 * factor;
         rows.push((format!("{factor} x symbols"), Size { symbols, ..TYPICAL }));
@@ -193,7 +227,7 @@ fn drafts(rounds: usize, part: &str) -> io::Result<()> {
         let size = Size {
             blocks: 128 * factor,
             symbols: 4096,
-            lines: 30,
+            ..TYPICAL
         };
         rows.push((format!("{factor} x blocks"), size));
     }
