@@ -1,10 +1,10 @@
 -- What a line of a block file holds: its key, and where it has a label a size and an align8. Assumes nothing.
-use Prim.Native.Nat.{ℕ, _+_, _*_, _≤_, _<_}
-use mathlib.Core.Path.{_≡_, sym, ap, _∙_}
+use Prim.Native.Nat.{ℕ, _+_, _-_, _*_, _≤_, _<_}
+use mathlib.Core.Path.{_≡_, refl, sym, ap, _∙_}
 use mathlib.Core.Bool.{true}
 use mathlib.Core.List.{List}
 use native.Mathlib.Omega.{arith}
-use lib.ListN.{length}
+use lib.ListN.{length, take, drop}
 use lib.Dec.{ltb}
 use borrow.Author.Tests.{ltb-true}
 use Rattle.base_scope.specs.Codes.{LINES, lineCode, lineBlock}
@@ -12,11 +12,14 @@ use Rattle.base_scope.specs.Limits.{NUMBER_LIMIT, ALIGN8_LIMIT}
 use Rattle.base_text.specs.Decimals.{decimal}
 use Rattle.blocks_values.specs.Values.{every, isDigit, labelIn, sizeIn, alignIn, lineSound}
 use Rattle.blocks_values.proofs.Values.{Parts, section-span, sound-span}
-use Rattle.blocks_lines.specs.Keys.{isKeyLine, valueAt}
-use Rattle.blocks_lines.proofs.Keys.{repeats-low}
+use Rattle.base_lists.proofs.Windows.{part-of-part}
+use Rattle.blocks_lines.specs.Lines.{lineEnd, line, next}
+use Rattle.blocks_lines.specs.Keys.{keyName, isKeyLine, valueAt}
+use Rattle.blocks_lines.proofs.Lines.{end-low, whole-lt, line-length}
+use Rattle.blocks_lines.proofs.Keys.{repeats-low, key-line-whole, value-fits, value-part}
 use Rattle.blocks_file.specs.Blocks.{groupAt, blockAt, blockCount}
 use Rattle.blocks_file.specs.Table.{Parsed, groupIn}
-use Rattle.blocks_file.proofs.Blocks.{counted-key, counted-section}
+use Rattle.blocks_file.proofs.Blocks.{key-inside, group-next, group-end-one, counted-key, counted-section}
 use Rattle.blocks_file.proofs.Table.{group-in}
 use Rattle.blocks_places.specs.Lines.{lineCount, spanValue, labelled, spanLabel, spanSize, spanAlign8}
 
@@ -41,6 +44,50 @@ module _ (B : List ℕ) where
 
     pub line-value : (v : List ℕ) → v ≡ valueAt B k a → v ≡ spanValue B j
     line-value v e = e ∙ rw code (value-read j a line-start)
+
+    -- and where it ends: the next group starts behind its LF
+    module _ (e n : ℕ) (behind : e ≡ groupIn table i (k + 1)) (key : n ≡ length (keyName k)) where
+      line-next : e ≡ next B a
+      line-next =
+          behind
+          ∙ rw (block, code) (group-in B table p (lineBlock j) (lineCode j + 1) (omega arith) (omega arith))
+          ∙ group-next B (blockAt B (lineBlock j)) (lineCode j)
+          ∙ group-end-one B (lineCode j) _ (repeats-low (lineCode j) (omega arith))
+          ∙ rw (← line-start)
+
+      line-last : e - 1 ≡ lineEnd B a
+      unfolding next
+      line-last =
+          let x = line-next in
+          omega (arith, x)
+
+      line-long : length (line B a) ≡ lineEnd B a - a
+      line-long = line-length B a (omega (arith, key-inside B k a line-key))
+
+      line-key-fits : n ≤ length (line B a)
+      line-key-fits = value-fits B k a (line B a) n refl key line-key
+
+      pub line-inside : (a + n ≤ e - 1) × (e - 1 ≤ length B) × (1 ≤ e)
+      unfolding next
+      line-inside =
+          let l = line-last in
+          let x = line-next in
+          let s = line-key-fits in
+          let y = line-long in
+          let m = end-low B a in
+          let q = whole-lt B a (key-line-whole B k a line-key) in
+          (omega (arith, l, s, y, m), omega (arith, l, q), omega (arith, x))
+
+      pub line-part : take (e - 1 - (a + n)) (drop (a + n) B) ≡ spanValue B j
+      unfolding line
+      line-part =
+          let l = line-last in
+          let y = line-long in
+          let s = line-key-fits in
+          let w : e - 1 - (a + n) ≡ length (line B a) - n = omega (arith, l, y, s) in
+          line-value _ (ap (λ (m : ℕ). take m (drop (a + n) B)) w
+          ∙ sym (part-of-part B a (lineEnd B a - a) n (length (line B a) - n) (omega (arith, y, s)))
+          ∙ value-part B k a (line B a) n refl key)
 
   pub span-section : (j : ℕ) → j < lineCount B → lineSound (spanValue B j) ≡ true
   unfolding spanValue

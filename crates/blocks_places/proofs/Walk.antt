@@ -32,35 +32,44 @@ use Rattle.blocks_places.specs.declared.LineStep.{LineStep}
 use Rattle.blocks_places.specs.Lines.{lineCount, labelled, spanSize, spanAlign8}
 use Rattle.blocks_places.specs.Places.{Place, nowhere, labelSymbol, hasSymbol, labelValue, lacks, reached, isPlaced, placeOf, placesOf, taken, place, endAt}
 use Rattle.blocks_places.specs.Faults.{oddPlace, sizeless, early, fault8, fault9, isMisplaced, misplacedAt, placing, Fitting}
-use Rattle.blocks_places.specs.Table.{placeIn, placesIn, placeRow, placeTable, Laid, Placement, offStep, lowPlace, onStep, onAfter, stepOf}
-use Rattle.blocks_places.proofs.Places.{label-value-read, symbol-yes, symbol-no, lacks-labelled, lacks-plain, reached-first, reached-next, placed-is, placed-not, placed-labelled, placed-reached, place-yes, place-no, length-places, taken-placed, place-value, places-small, taken-inside, end-none, end-other, end-off, end-moved}
+use Rattle.blocks_places.specs.Table.{heldSize, placeIn, placesIn, placeRow, placeTable, Laid, Placement, offStep, lowPlace, onStep, onAfter, stepOf}
+use Rattle.blocks_places.proofs.Places.{label-value-read, symbol-yes, symbol-no, lacks-labelled, lacks-plain, reached-first, reached-next, placed-is, placed-not, placed-labelled, placed-reached, place-yes, place-no, place-taken, length-places, taken-placed, place-value, places-small, taken-inside, end-none, end-other, end-off, end-moved}
 
 -- ---- rows
 
-pub length-place-row : (p : Place) → length (placeRow p) ≡ PLACE_ROW
+pub length-place-row : (s : ℕ) (p : Place) → length (placeRow s p) ≡ PLACE_ROW
 unfolding placeRow
-length-place-row p = length-flat (encoded Big 4) 4 (length-encoded Big 4) (cond (p .taken) 1 0 ∷ p .at ∷ [])
+length-place-row s p = length-flat (encoded Big 4) 4 (length-encoded Big 4) (cond (p .taken) s 0 ∷ p .at ∷ [])
+
+-- a size tells whether a line is taken
+flag-read : (s : ℕ) (b : Bool) → (b ≡ true → 0 < s) → ltb 0 (cond b s 0) ≡ b
+flag-read s true h = lt-ltb 0 s (h refl)
+flag-read s false h = refl
 
 -- a row that stands in a table, read back
-module _ (p : Place) (j : ℕ) (table : List ℕ) (w : Within (placeRow p) (PLACE_ROW * j) table) where
-  within-word : (k : ℕ) → k < 2 → Within (encoded Big 4 (getD (cond (p .taken) 1 0 ∷ p .at ∷ []) k 0)) (4 * k) (placeRow p)
+module _ (s : ℕ) (p : Place) (j : ℕ) (table : List ℕ) (w : Within (placeRow s p) (PLACE_ROW * j) table) where
+  within-word : (k : ℕ) → k < 2 → Within (encoded Big 4 (getD (cond (p .taken) s 0 ∷ p .at ∷ []) k 0)) (4 * k) (placeRow s p)
   unfolding placeRow
-  within-word k h = within-flat (encoded Big 4) 4 (length-encoded Big 4) (cond (p .taken) 1 0 ∷ p .at ∷ []) k 0 h
+  within-word k h = within-flat (encoded Big 4) 4 (length-encoded Big 4) (cond (p .taken) s 0 ∷ p .at ∷ []) k 0 h
 
-  word-at : (k : ℕ) → k < 2 → number Big 4 table (PLACE_ROW * j + 4 * k) ≡ getD (cond (p .taken) 1 0 ∷ p .at ∷ []) k 0
-  word-at k h = within-number Big 3 _ (PLACE_ROW * j + 4 * k) table (within-within _ (placeRow p) table (PLACE_ROW * j) (4 * k) (within-word k h) w)
+  word-at : (k : ℕ) → k < 2 → number Big 4 table (PLACE_ROW * j + 4 * k) ≡ getD (cond (p .taken) s 0 ∷ p .at ∷ []) k 0
+  word-at k h = within-number Big 3 _ (PLACE_ROW * j + 4 * k) table (within-within _ (placeRow s p) table (PLACE_ROW * j) (4 * k) (within-word k h) w)
 
-  flag-read : (b : Bool) → eqb (cond b 1 0) 1 ≡ b
-  flag-read true = refl
-  flag-read false = refl
-
-  pub place-read : placeIn table j ≡ p
-  unfolding placeIn
-  place-read =
+  held-size : heldSize table j ≡ cond (p .taken) s 0
+  unfolding heldSize
+  held-size =
       let z : PLACE_ROW * j ≡ PLACE_ROW * j + 4 * 0 = omega arith in
-      let f : eqb (number Big 4 table (PLACE_ROW * j)) 1 ≡ p .taken = ap (λ (n : ℕ). eqb n 1) (ap (number Big 4 table) z ∙ word-at 0 (omega arith)) ∙ flag-read (p .taken) in
+      ap (number Big 4 table) z ∙ word-at 0 (omega arith)
+
+  pub place-read : (p .taken ≡ true → 0 < s) → placeIn table j ≡ p
+  unfolding placeIn
+  place-read sized =
+      let f : ltb 0 (heldSize table j) ≡ p .taken = ap (ltb 0) held-size ∙ flag-read s (p .taken) sized in
       let e : number Big 4 table (PLACE_ROW * j + 4) ≡ p .at = word-at 1 (omega arith) in
       λ k. record { taken = f k; at = e k }
+
+  pub size-held : p .taken ≡ true → heldSize table j ≡ s
+  size-held t = held-size ∙ rw t
 
 -- row j of the first n rows of a table
 module _ (table : List ℕ) (n j : ℕ) (h : j < n) where
@@ -84,34 +93,45 @@ module _ (P : List Place) (B table places : List ℕ) (x : Laid P B table places
   pub laid-place : placeIn places j .at ≡ place P j
   laid-place = sym (place-row places (lineCount B) j h) ∙ ap (λ (Q : List Place). place Q j) (x .is)
 
+  -- the size of a line that is taken
+  pub laid-size : placeIn places j .taken ≡ true → heldSize places j ≡ spanSize B j
+  laid-size t = x .sizes j (sym laid-taken ∙ t)
+
   pub laid-inside : (PLACE_ROW * j + PLACE_ROW ≤ length places) × (j < LINES * BLOCK_LIMIT)
   laid-inside = (omega (arith, x .long), omega (arith, count-high B))
 
 module _ (o : ByteOrder) (C B : List ℕ) where
   pub length-place-table : (n : ℕ) → length (placeTable o C B n) ≡ PLACE_ROW * n
   unfolding placeTable
-  length-place-table n = gather-all-length (λ j. placeRow (placeOf o C B j)) PLACE_ROW (λ j. length-place-row (placeOf o C B j)) n
+  length-place-table n = gather-all-length (λ j. placeRow (spanSize B j) (placeOf o C B j)) PLACE_ROW (λ j. length-place-row (spanSize B j) (placeOf o C B j)) n
 
   pub place-table-zero : placeTable o C B 0 ≡ []
   unfolding placeTable
-  place-table-zero = gather-zero (λ i. true) (λ j. placeRow (placeOf o C B j))
+  place-table-zero = gather-zero (λ i. true) (λ j. placeRow (spanSize B j) (placeOf o C B j))
 
-  pub place-table-next : (n : ℕ) → placeTable o C B (n + 1) ≡ placeTable o C B n ++ placeRow (placeOf o C B n)
+  pub place-table-next : (n : ℕ) → placeTable o C B (n + 1) ≡ placeTable o C B n ++ placeRow (spanSize B n) (placeOf o C B n)
   unfolding placeTable
-  place-table-next n = gather-yes (λ i. true) (λ j. placeRow (placeOf o C B j)) n refl
+  place-table-next n = gather-yes (λ i. true) (λ j. placeRow (spanSize B j) (placeOf o C B j)) n refl
 
   -- row j stands at its place
-  within-place-row : (j n : ℕ) → j < n → Within (placeRow (placeOf o C B j)) (PLACE_ROW * j) (placeTable o C B n)
+  within-place-row : (j n : ℕ) → j < n → Within (placeRow (spanSize B j) (placeOf o C B j)) (PLACE_ROW * j) (placeTable o C B n)
   unfolding placeTable
-  within-place-row j n h = within-gather (λ i. true) (λ j. placeRow (placeOf o C B j)) j n (PLACE_ROW * j) (length-place-table j) h refl
+  within-place-row j n h = within-gather (λ i. true) (λ j. placeRow (spanSize B j) (placeOf o C B j)) j n (PLACE_ROW * j) (length-place-table j) h refl
 
   -- the whole table, read back
-  pub places-read : (table : List ℕ) → Within (placeTable o C B (lineCount B)) 0 table → placesIn table (lineCount B) ≡ placesOf o C B
-  unfolding placesIn placesOf
-  places-read table w = select-same (λ j. true) (λ j. true) (placeIn table) (placeOf o C B) (lineCount B) (λ j h. refl) (λ j h t.
-      place-read (placeOf o C B j) j table
-      (within-at (placeRow (placeOf o C B j)) table (0 + PLACE_ROW * j) (PLACE_ROW * j) (omega arith)
-      (within-within (placeRow (placeOf o C B j)) (placeTable o C B (lineCount B)) table 0 (PLACE_ROW * j) (within-place-row j (lineCount B) h) w)))
+  module _ (table : List ℕ) (w : Within (placeTable o C B (lineCount B)) 0 table) where
+    row-there : (j : ℕ) → j < lineCount B → Within (placeRow (spanSize B j) (placeOf o C B j)) (PLACE_ROW * j) table
+    row-there j h =
+        within-at (placeRow (spanSize B j) (placeOf o C B j)) table (0 + PLACE_ROW * j) (PLACE_ROW * j) (omega arith)
+        (within-within (placeRow (spanSize B j) (placeOf o C B j)) (placeTable o C B (lineCount B)) table 0 (PLACE_ROW * j) (within-place-row j (lineCount B) h) w)
+
+    pub places-read : ((j : ℕ) → j < lineCount B → isPlaced o C B j ≡ true → 0 < spanSize B j) → placesIn table (lineCount B) ≡ placesOf o C B
+    unfolding placesIn placesOf
+    places-read sized = select-same (λ j. true) (λ j. true) (placeIn table) (placeOf o C B) (lineCount B) (λ j h. refl) (λ j h t.
+        place-read (spanSize B j) (placeOf o C B j) j table (row-there j h) (λ y. sized j h (sym (place-taken o C B j) ∙ y)))
+
+    pub sizes-read : (j : ℕ) → j < lineCount B → isPlaced o C B j ≡ true → heldSize table j ≡ spanSize B j
+    sizes-read j h t = size-held (spanSize B j) (placeOf o C B j) j table (row-there j h) (place-taken o C B j ∙ t)
 
   pub place-table-fits : (before : List ℕ) (n : ℕ) → n ≤ lineCount B → PLACE_TABLE ≤ length before → 0 + length (placeTable o C B n) ≤ length before
   place-table-fits before n h l = rw (length-place-table n) (omega (arith, count-high B))
@@ -280,7 +300,7 @@ module _ (o : ByteOrder) (C B before : List ℕ) (j : ℕ) (ends : List ℕ) (on
         placement (Misaligned (lineBlock j)) e (sym (at-9 o C B j e h f))
 
     -- the row of the step, its end and its flag
-    row-is : flat (encoded Big 4) (s .taken ∷ s .place ∷ []) ≡ placeRow (placeOf o C B j)
+    row-is : flat (encoded Big 4) (s .size ∷ s .place ∷ []) ≡ placeRow (spanSize B j) (placeOf o C B j)
     unfolding stepOf placeRow
     row-is = rw is
 
@@ -307,19 +327,19 @@ module _ (o : ByteOrder) (C B before : List ℕ) (j : ℕ) (ends : List ℕ) (on
         getD-set-other ends c k (s .end) 0 q ∙ w .ends-at k l ∙ sym (other k (λ x. q (x ∙ sym e))))
 
     pub walking-next : (c : ℕ) → c ≡ lineCode j → s .misplaced ≡ false → s .misaligned ≡ false → PLACE_TABLE ≤ length before
-        → Walking o C B before (j + 1) (set ends c (s .end)) (s .on) (spliced places (PLACE_ROW * j) (flat (encoded Big 4) (s .taken ∷ s .place ∷ [])))
+        → Walking o C B before (j + 1) (set ends c (s .end)) (s .on) (spliced places (PLACE_ROW * j) (flat (encoded Big 4) (s .size ∷ s .place ∷ [])))
     walking-next c e f g m =
         let v : isMisplaced o C B j ≡ false = misplaced-no o C B j (sym by-8 ∙ f) (sym by-9 ∙ g) in
         let t : PLACE_ROW * j ≡ 0 + length (placeTable o C B j) = omega (arith, length-place-table o C B j) in
-        let r : PLACE_ROW * j + length (placeRow (placeOf o C B j)) ≤ length before = omega (arith, length-place-row (placeOf o C B j), count-high B) in
+        let r : PLACE_ROW * j + length (placeRow (spanSize B j) (placeOf o C B j)) ≤ length before = omega (arith, length-place-row (spanSize B j) (placeOf o C B j), count-high B) in
         record {
           few = omega arith;
           five = length-set ends c (s .end) ∙ w .five;
           ends-at = λ k l. moved c k e l;
           reach = on-is;
           clear = w .clear ∙ first-next (isMisplaced o C B) j (lineCount B) h v;
-          long = rw row-is (length-spliced places (PLACE_ROW * j) (placeRow (placeOf o C B j)) (rw (w .long) r) ∙ w .long);
-          rows = rw (row-is, w .rows) (spliced-then before 0 (placeTable o C B j) (placeRow (placeOf o C B j)) (PLACE_ROW * j) t r ∙ rw (← place-table-next o C B j));
+          long = rw row-is (length-spliced places (PLACE_ROW * j) (placeRow (spanSize B j) (placeOf o C B j)) (rw (w .long) r) ∙ w .long);
+          rows = rw (row-is, w .rows) (spliced-then before 0 (placeTable o C B j) (placeRow (spanSize B j) (placeOf o C B j)) (PLACE_ROW * j) t r ∙ rw (← place-table-next o C B j));
         }
 
 -- ---- all lines placed
@@ -342,13 +362,6 @@ module _ (o : ByteOrder) (C B : List ℕ) where
 
       told-9 : (n a b : ℕ) → Misaligned n ≡ Placed → a ≡ b
       told-9 n a b e = cc
-
-  -- so the table that it leaves holds all places
-  pub walked-of : (before after : List ℕ) → PLACE_TABLE ≤ length before → after ≡ spliced before 0 (placeTable o C B (misplacedAt o C B))
-      → placing o C B ≡ Placed → placesIn after (lineCount B) ≡ placesOf o C B
-  walked-of before after l e p =
-      places-read o C B after
-      (rw (e, all-clear p) (within-spliced before 0 (placeTable o C B (lineCount B)) (place-table-fits o C B before (lineCount B) (omega arith) l)))
 
   -- no line is at fault
   pub placed-clear : placing o C B ≡ Placed → (j : ℕ) → j < lineCount B → isMisplaced o C B j ≡ false
@@ -394,6 +407,17 @@ module _ (o : ByteOrder) (C B : List ℕ) (p : placing o C B ≡ Placed) where
       let d = eqb-false (spanSize B j) 0 z in
       omega (arith, d))
 
+  -- the table that the walk leaves holds all sizes and places
+  module _ (before after : List ℕ) (l : PLACE_TABLE ≤ length before) (e : after ≡ spliced before 0 (placeTable o C B (misplacedAt o C B))) where
+    walked : Within (placeTable o C B (lineCount B)) 0 after
+    walked = rw (e, all-clear o C B p) (within-spliced before 0 (placeTable o C B (lineCount B)) (place-table-fits o C B before (lineCount B) (omega arith) l))
+
+    pub walked-of : placesIn after (lineCount B) ≡ placesOf o C B
+    walked-of = places-read o C B after walked (λ j h t. placed-facts j h t .sized)
+
+    walked-size : (j : ℕ) → j < lineCount B → isPlaced o C B j ≡ true → heldSize after j ≡ spanSize B j
+    walked-size = sizes-read o C B after walked
+
   -- the places fit
   module _ (small : (i : ℕ) → getD C i 0 < 256) where
     inside : (j : ℕ) → taken (placesOf o C B) j ≡ true → j < lineCount B
@@ -417,6 +441,7 @@ module _ (o : ByteOrder) (C B : List ℕ) (p : placing o C B ≡ Placed) where
     laid-of table before after parsed l long e = record {
       parsed = parsed;
       long = omega (arith, long, count-high B);
-      is = walked-of o C B before after l e p;
+      is = walked-of before after l e;
+      sizes = λ j t. walked-size before after l e j (inside j t) (placed j t);
       fitting = fitting-of;
     }

@@ -18,7 +18,7 @@ ghost use Rattle.blocks_file.specs.Table.{Parsed};
 ghost use Rattle.blocks_places.specs.Lines.{lineCount, spanValue, labelled, spanLabel, spanSize, spanAlign8};
 ghost use Rattle.blocks_places.specs.Places.{labelSymbol, reached, placesOf, live, endAt};
 ghost use Rattle.blocks_places.specs.Faults.{oddPlace};
-ghost use Rattle.blocks_places.specs.Table.{placeIn, placesIn, Placement, offStep, lowPlace, onStep, onAfter, stepOf, AtLine};
+ghost use Rattle.blocks_places.specs.Table.{placeIn, placesIn, heldSize, Placement, offStep, lowPlace, onStep, onAfter, stepOf, AtLine};
 use base_fields::ByteOrder;
 use elf_symbols::SymbolTable;
 
@@ -29,14 +29,18 @@ pub enum Placing {
     Misaligned(usize),
 }
 
-// What stands behind the key in line j, as a part of the block file.
+// What stands behind the key in line j, as a part of the block file. It ends in front of an LF, behind which the next group starts: nothing is searched.
 pub fn span_value<'a>(file: &'a [u8], table: &[u8], j: usize) -> &'a [u8]
     requires { ⌜ Parsed (now file) (now table) × (j < lineCount (now file)) ⌝ }
     ensures { λ r. ⌜ now r ≡ spanValue (now (file .entry)) j ⌝ }
 {
     let k = base_scope::line_code(j);
-    let at = blocks_file::group_start(table, base_scope::line_block(j), k as usize);
-    blocks_lines::value_at(file, k, at)
+    let i = base_scope::line_block(j);
+    let at = blocks_file::group_start(table, i, k as usize);
+    let next = blocks_file::group_start(table, i, k as usize + 1);
+    let from = at + blocks_lines::key_length(k);
+    let to = next - 1;
+    &file[from..to]
 }
 
 // The label of line j, as a part of the block file.
@@ -77,7 +81,7 @@ pub fn is_labelled(file: &[u8], table: &[u8], j: usize) -> bool
 struct LineStep {
     misplaced: bool,
     misaligned: bool,
-    taken: u32,
+    size: u32,
     place: u32,
     end: usize,
     on: bool,
@@ -120,7 +124,7 @@ fn off_step(misplaced: bool, end: usize, on: bool) -> LineStep
     LineStep {
         misplaced,
         misaligned: false,
-        taken: 0,
+        size: 0,
         place: 0,
         end,
         on,
@@ -138,7 +142,7 @@ fn on_step(place: u32, size: usize, align8: usize, end: usize, on: bool) -> Line
     LineStep {
         misplaced,
         misaligned,
-        taken: 1,
+        size: size as u32,
         place,
         end: p + size,
         on,
@@ -209,11 +213,11 @@ fn step_of(
 }
 
 // Writes row j of the table of places.
-fn store_place(places: &mut [u8], j: usize, taken: u32, place: u32)
+fn store_place(places: &mut [u8], j: usize, size: u32, place: u32)
     requires { ⌜ (PLACE_ROW * j + PLACE_ROW ≤ length (now places)) × (j < LINES * BLOCK_LIMIT) ⌝ }
-    ensures { λ _. ⌜ now (places .exit) ≡ spliced (now (places .entry)) (PLACE_ROW * j) (flat (encoded Big 4) (taken ∷ place ∷ [])) ⌝ }
+    ensures { λ _. ⌜ now (places .exit) ≡ spliced (now (places .entry)) (PLACE_ROW * j) (flat (encoded Big 4) (size ∷ place ∷ [])) ⌝ }
 {
-    let row = [taken, place];
+    let row = [size, place];
     base_fields::write_words(ByteOrder::Big, places, base_scope::PLACE_ROW * j, &row);
 }
 
@@ -244,7 +248,7 @@ pub fn place_spans(
         if s.misaligned {
             return Placing::Misaligned(base_scope::line_block(j));
         }
-        store_place(places, j, s.taken, s.place);
+        store_place(places, j, s.size, s.place);
         ends[c] = s.end;
         on = s.on;
         j += 1;
@@ -257,7 +261,15 @@ pub fn is_taken(places: &[u8], j: usize) -> bool
     requires { ⌜ (PLACE_ROW * j + PLACE_ROW ≤ length (now places)) × (j < LINES * BLOCK_LIMIT) ⌝ }
     ensures { λ r. ⌜ r ≡ placeIn (now (places .entry)) j .taken ⌝ }
 {
-    base_fields::read32(ByteOrder::Big, places, base_scope::PLACE_ROW * j) == 1
+    base_fields::read32(ByteOrder::Big, places, base_scope::PLACE_ROW * j) > 0
+}
+
+// The size of the line of row j, 0 where it is not taken. Of a table in hand it is the size that the line has (proofs/Walk.antt, `laid-size`).
+pub fn size_of(places: &[u8], j: usize) -> usize
+    requires { ⌜ (PLACE_ROW * j + PLACE_ROW ≤ length (now places)) × (j < LINES * BLOCK_LIMIT) ⌝ }
+    ensures { λ r. ⌜ (r ≡ heldSize (now (places .entry)) j) × (r < 2 ^ 32) ⌝ }
+{
+    base_fields::read32(ByteOrder::Big, places, base_scope::PLACE_ROW * j) as usize
 }
 
 // The place of the line of row j, 0 where it is not taken.

@@ -45,7 +45,7 @@ fn store_span(
         return r;
     }
     if blocks_places::is_taken(places, j) {
-        let size = blocks_places::span_size(file, table, j);
+        let size = blocks_places::size_of(places, j);
         let place = blocks_places::place_of(places, j);
         let row = [place as u32, size as u32];
         base_fields::write_words(ByteOrder::Big, rows, base_scope::SPAN_ROW * r, &row);
@@ -82,7 +82,7 @@ fn end_behind(file: &[u8], table: &[u8], places: &[u8], j: usize, end: usize) ->
     ensures { λ r. ⌜ r ≡ endAt (placesIn (now (places .entry)) (lineCount (now (file .entry)))) (now (file .entry)) (j + 1) (lineCode j) ⌝ }
 {
     if blocks_places::is_taken(places, j) {
-        let size = blocks_places::span_size(file, table, j);
+        let size = blocks_places::size_of(places, j);
         return blocks_places::place_of(places, j) + size;
     }
     end

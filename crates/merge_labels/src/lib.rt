@@ -96,7 +96,7 @@ fn is_lined(
     let symbols = view.symbols;
     let label = blocks_places::span_label(file, table, j);
     let place = blocks_places::place_of(places, j);
-    let span_end = place + blocks_places::span_size(file, table, j);
+    let span_end = place + blocks_places::size_of(places, j);
     if is_label_at(
         order,
         assembled,

@@ -113,7 +113,7 @@ fn is_uneven(file: &[u8], table: &[u8], places: &[u8], code: u32, j: usize) -> b
         return false;
     }
     if blocks_places::is_taken(places, j) {
-        let size = blocks_places::span_size(file, table, j);
+        let size = blocks_places::size_of(places, j);
         let even = base_scope::both(blocks_places::place_of(places, j) % 4 == 0, size % 4 == 0);
         return !even;
     }

@@ -52,4 +52,4 @@ laid-open C B o table before after q placed small parsed room long rows = rw q a
 
 -- the places are those that the table holds
 pub laid-own : (P : List Place) (B table places : List ℕ) → Laid P B table places → Laid (placesIn places (lineCount B)) B table places
-laid-own P B table places x = record { parsed = x .parsed; long = x .long; is = refl; fitting = rw (x .is) (x .fitting) }
+laid-own P B table places x = record { parsed = x .parsed; long = x .long; is = refl; sizes = rw (x .is) (x .sizes); fitting = rw (x .is) (x .fitting) }

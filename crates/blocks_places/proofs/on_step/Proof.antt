@@ -11,8 +11,11 @@ is-low-requires c κs = search needs
 is-odd-requires : tie.Need-is-odd-requires
 is-odd-requires c κs = search needs
 
-add-t9 : tie.Need-add-t9
-add-t9 c = search needs
+cast-t9 : tie.Need-cast-t9
+cast-t9 c = search needs
+
+add-t10 : tie.Need-add-t10
+add-t10 c = search needs
 
 returns : tie.Need-returns
 unfolding onStep
@@ -21,11 +24,11 @@ returns c =
     λ k. record {
       misplaced = c .before .is-low .ensures k;
       misaligned = c .is-odd .ensures k;
-      taken = 1;
+      size = a .size;
       place = a .place;
       end = a .place + a .size;
       on = a .on;
     }
 
 pub on-step-spec : {M : Type 1} → statement M
-on-step-spec = tie.close (tie.spec is-low-requires is-odd-requires add-t9 returns)
+on-step-spec = tie.close (tie.spec is-low-requires is-odd-requires cast-t9 add-t10 returns)

@@ -2,7 +2,7 @@
 use Rattle.blocks_places.specs.Lines.{lineCount}
 use Rattle.blocks_places.specs.Places.{taken}
 use Rattle.blocks_places.specs.Table.{placesIn}
-use Rattle.blocks_places.proofs.Walk.{laid-taken, laid-place, laid-inside}
+use Rattle.blocks_places.proofs.Walk.{laid-taken, laid-place, laid-size, laid-inside}
 use Rattle.blocks_spans.specs.Spans.{isSpan, spanOf}
 use Rattle.blocks_spans.proofs.Spans.{span-is, span-not, span-off, rows-before}
 use Rattle.blocks_spans.proofs.Table.{stored-yes, stored-no}
@@ -32,13 +32,12 @@ is-taken-requires c κs =
     let P = placesIn (now (a .places)) (lineCount (now (a .file))) in
     laid-inside P (now (a .file)) (now (a .table)) (now (a .places)) (b .pre .0) (a .j) (b .pre .1)
 
-span-size-requires : tie.Need-span-size-requires
-span-size-requires c κs =
+size-of-requires : tie.Need-size-of-requires
+size-of-requires c κs =
     let b = c .before .before .before .before .before .before .before .before in
     let a = b .args in
     let P = placesIn (now (a .places)) (lineCount (now (a .file))) in
-    let t = sym (laid-taken P (now (a .file)) (now (a .table)) (now (a .places)) (b .pre .0) (a .j) (b .pre .1)) ∙ sym (c .before .is-taken .ensures) ∙ c .if2 .taken in
-    (b .pre .0 .parsed, b .pre .1, b .pre .0 .fitting .labels (a .j) t)
+    laid-inside P (now (a .file)) (now (a .table)) (now (a .places)) (b .pre .0) (a .j) (b .pre .1)
 
 place-of-requires : tie.Need-place-of-requires
 place-of-requires c κs =
@@ -99,7 +98,7 @@ returns-2 c =
     let e : lineCode (a .j) ≡ a .code = sym (c .before .before .before .before .before .before .before .before .before .before .line-code .ensures .0) ∙ c .before .before .before .before .before .before .before .before .before .if1 .left in
     let s : isSpan P (now (a .file)) (a .code) (a .j) ≡ true = span-is P (now (a .file)) (a .code) (a .j) t e in
     stored-yes P (now (a .file)) (a .code) (a .j) (a .r) _ (now (a .rows)) _ _ _ s (b .pre .2) refl
-    (c .before .before .before .before .before .place-of .ensures .0 ∙ laid-place P (now (a .file)) (now (a .table)) (now (a .places)) (b .pre .0) (a .j) (b .pre .1)) (c .before .before .before .before .before .before .span-size .ensures .0) (c .before .before .write-words .ensures)
+    (c .before .before .before .before .before .place-of .ensures .0 ∙ laid-place P (now (a .file)) (now (a .table)) (now (a .places)) (b .pre .0) (a .j) (b .pre .1)) (c .before .before .before .before .before .before .size-of .ensures .0 ∙ laid-size P (now (a .file)) (now (a .table)) (now (a .places)) (b .pre .0) (a .j) (b .pre .1) (sym (c .before .before .before .before .before .before .before .before .is-taken .ensures) ∙ c .before .before .before .before .before .before .before .if2 .taken)) (c .before .before .write-words .ensures)
 
 returns-3 : tie.Need-returns-3
 returns-3 c =
@@ -116,7 +115,7 @@ store-span-spec =
     line-code-requires
     returns
     is-taken-requires
-    span-size-requires
+    size-of-requires
     place-of-requires
     cast-t14
     cast-t15

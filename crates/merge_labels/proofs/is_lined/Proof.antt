@@ -37,12 +37,12 @@ place-of-requires c κs =
     let P = placesIn (now (a .places)) (lineCount (now (a .file))) in
     laid-inside P (now (a .file)) (now (a .table)) (now (a .places)) (b .pre .1) (a .j) (b .pre .2)
 
-span-size-requires : tie.Need-span-size-requires
-span-size-requires c κs =
+size-of-requires : tie.Need-size-of-requires
+size-of-requires c κs =
     let b = c .before .before .before .before .before .before .before .before .before .before in
     let a = b .args in
     let P = placesIn (now (a .places)) (lineCount (now (a .file))) in
-    (b .pre .1 .parsed, b .pre .2, b .pre .1 .fitting .labels (a .j) (b .pre .3))
+    laid-inside P (now (a .file)) (now (a .table)) (now (a .places)) (b .pre .1) (a .j) (b .pre .2)
 
 add-span-end : tie.Need-add-span-end
 add-span-end c = search needs
@@ -71,7 +71,7 @@ returns c =
     let b = c .before .before .before .before .before .before .before .before .before .before .before .before .before .before .before .before in
     let a = b .args in
     let P = placesIn (now (a .places)) (lineCount (now (a .file))) in
-    c .is-label-at2 .ensures ∙ lined-both (a .order) (now (a .assembled)) P (now (a .file)) (a .j) _ _ _ _ (c .before .before .before .before .before .before .before .before .before .section .ensures ∙ ap (sectionIn (a .view)) (c .before .before .before .before .before .before .before .before .before .before .line-code .ensures .0) ∙ view-section (a .order) (now (a .assembled)) (a .view) (b .pre .0 .is) (lineCode (a .j)) (omega arith) (omega arith)) (c .before .before .before .before .before .before .before .span-label .ensures) (c .before .before .before .before .before .before .place-of .ensures .0 ∙ laid-place P (now (a .file)) (now (a .table)) (now (a .places)) (b .pre .1) (a .j) (b .pre .2)) (c .before .before .before .before .before .span-size .ensures .0) (sym (c .before .before .before .is-label-at .ensures) ∙ c .before .before .if1 .taken)
+    c .is-label-at2 .ensures ∙ lined-both (a .order) (now (a .assembled)) P (now (a .file)) (a .j) _ _ _ _ (c .before .before .before .before .before .before .before .before .before .section .ensures ∙ ap (sectionIn (a .view)) (c .before .before .before .before .before .before .before .before .before .before .line-code .ensures .0) ∙ view-section (a .order) (now (a .assembled)) (a .view) (b .pre .0 .is) (lineCode (a .j)) (omega arith) (omega arith)) (c .before .before .before .before .before .before .before .span-label .ensures) (c .before .before .before .before .before .before .place-of .ensures .0 ∙ laid-place P (now (a .file)) (now (a .table)) (now (a .places)) (b .pre .1) (a .j) (b .pre .2)) (c .before .before .before .before .before .size-of .ensures .0 ∙ b .pre .1 .sizes (a .j) (b .pre .3)) (sym (c .before .before .before .is-label-at .ensures) ∙ c .before .before .if1 .taken)
 
 returns-2 : tie.Need-returns-2
 unfolding text
@@ -79,7 +79,7 @@ returns-2 c =
     let b = c .before .before .before .before .before .before .before .before .before .before .before .before .before .before in
     let a = b .args in
     let P = placesIn (now (a .places)) (lineCount (now (a .file))) in
-    lined-not (a .order) (now (a .assembled)) P (now (a .file)) (a .j) _ _ _ _ (c .before .before .before .before .before .before .before .section .ensures ∙ ap (sectionIn (a .view)) (c .before .before .before .before .before .before .before .before .line-code .ensures .0) ∙ view-section (a .order) (now (a .assembled)) (a .view) (b .pre .0 .is) (lineCode (a .j)) (omega arith) (omega arith)) (c .before .before .before .before .before .span-label .ensures) (c .before .before .before .before .place-of .ensures .0 ∙ laid-place P (now (a .file)) (now (a .table)) (now (a .places)) (b .pre .1) (a .j) (b .pre .2)) (c .before .before .before .span-size .ensures .0) (sym (c .before .is-label-at .ensures) ∙ c .if1 .left)
+    lined-not (a .order) (now (a .assembled)) P (now (a .file)) (a .j) _ _ _ _ (c .before .before .before .before .before .before .before .section .ensures ∙ ap (sectionIn (a .view)) (c .before .before .before .before .before .before .before .before .line-code .ensures .0) ∙ view-section (a .order) (now (a .assembled)) (a .view) (b .pre .0 .is) (lineCode (a .j)) (omega arith) (omega arith)) (c .before .before .before .before .before .span-label .ensures) (c .before .before .before .before .place-of .ensures .0 ∙ laid-place P (now (a .file)) (now (a .table)) (now (a .places)) (b .pre .1) (a .j) (b .pre .2)) (c .before .before .before .size-of .ensures .0 ∙ b .pre .1 .sizes (a .j) (b .pre .3)) (sym (c .before .is-label-at .ensures) ∙ c .if1 .left)
 
 pub is-lined-spec : {M : Type 1} → statement M
 is-lined-spec =
@@ -89,7 +89,7 @@ is-lined-spec =
     section-requires
     span-label-requires
     place-of-requires
-    span-size-requires
+    size-of-requires
     add-span-end
     slice-aggregate-is-label-at
     is-label-at-requires

@@ -1,7 +1,7 @@
 -- `merge_missing::is_uneven` meets its contract: a line of another code, or one that is not taken, has no span of the code. Assumes nothing.
 use Rattle.blocks_places.specs.Lines.{lineCount}
 use Rattle.blocks_places.specs.Table.{placesIn}
-use Rattle.blocks_places.proofs.Walk.{laid-taken, laid-place, laid-inside}
+use Rattle.blocks_places.proofs.Walk.{laid-taken, laid-place, laid-size, laid-inside}
 use Rattle.merge_missing.proofs.Ends.{uneven-code, uneven-off, uneven-taken}
 use mathlib.Core.Path.{sym, ap, _∙_}
 use mathlib.Core.Bool.{not}
@@ -27,12 +27,12 @@ is-taken-requires c κs =
     let P = placesIn (now (a .places)) (lineCount (now (a .file))) in
     laid-inside P (now (a .file)) (now (a .table)) (now (a .places)) (b .pre .0) (a .j) (b .pre .1)
 
-span-size-requires : tie.Need-span-size-requires
-span-size-requires c κs =
+size-of-requires : tie.Need-size-of-requires
+size-of-requires c κs =
     let b = c .before .before .before .before .before .before .before in
     let a = b .args in
     let P = placesIn (now (a .places)) (lineCount (now (a .file))) in
-    (b .pre .0 .parsed, b .pre .1, b .pre .0 .fitting .labels (a .j) (sym (laid-taken P (now (a .file)) (now (a .table)) (now (a .places)) (b .pre .0) (a .j) (b .pre .1)) ∙ sym (c .before .is-taken .ensures) ∙ c .if2 .taken))
+    laid-inside P (now (a .file)) (now (a .table)) (now (a .places)) (b .pre .0) (a .j) (b .pre .1)
 
 place-of-requires : tie.Need-place-of-requires
 place-of-requires c κs =
@@ -49,7 +49,7 @@ returns-2 c =
     let b = c .before .before .before .before .before .before .before .before .before .before in
     let a = b .args in
     let P = placesIn (now (a .places)) (lineCount (now (a .file))) in
-    ap not (c .both .ensures) ∙ uneven-taken P (now (a .file)) (a .code) (a .j) _ _ _ (c .before .before .before .before .before .before .line-code .ensures .0) (c .before .before .before .before .before .if1 .left) (sym (laid-taken P (now (a .file)) (now (a .table)) (now (a .places)) (b .pre .0) (a .j) (b .pre .1)) ∙ sym (c .before .before .before .before .is-taken .ensures) ∙ c .before .before .before .if2 .taken) (c .before .place-of .ensures .0 ∙ laid-place P (now (a .file)) (now (a .table)) (now (a .places)) (b .pre .0) (a .j) (b .pre .1)) (c .before .before .span-size .ensures .0)
+    ap not (c .both .ensures) ∙ uneven-taken P (now (a .file)) (a .code) (a .j) _ _ _ (c .before .before .before .before .before .before .line-code .ensures .0) (c .before .before .before .before .before .if1 .left) (sym (laid-taken P (now (a .file)) (now (a .table)) (now (a .places)) (b .pre .0) (a .j) (b .pre .1)) ∙ sym (c .before .before .before .before .is-taken .ensures) ∙ c .before .before .before .if2 .taken) (c .before .place-of .ensures .0 ∙ laid-place P (now (a .file)) (now (a .table)) (now (a .places)) (b .pre .0) (a .j) (b .pre .1)) (c .before .before .size-of .ensures .0 ∙ laid-size P (now (a .file)) (now (a .table)) (now (a .places)) (b .pre .0) (a .j) (b .pre .1) (sym (c .before .before .before .before .is-taken .ensures) ∙ c .before .before .before .if2 .taken))
 
 returns-3 : tie.Need-returns-3
 returns-3 c =
@@ -65,7 +65,7 @@ is-uneven-spec =
     line-code-requires
     returns
     is-taken-requires
-    span-size-requires
+    size-of-requires
     place-of-requires
     both-requires
     returns-2
