@@ -60,7 +60,7 @@ WRITTEN_LIMIT = 1286
 abbrev pub ID_LIMIT : ℕ
 ID_LIMIT = SYMBOL_LIMIT + SYMBOL_LIMIT + STATIC_LIMIT
 
--- the bytes of a row: twelve words for a block, two for a line, two for a span, three for a block in the late step, six for a static, four for an id
+-- the bytes of a row: twelve words for a block, two for a line, two for a span, three for a block in the late step, six for a static, two for an id
 abbrev pub BLOCK_ROW : ℕ
 BLOCK_ROW = 48
 
@@ -77,7 +77,7 @@ abbrev pub STATIC_ROW : ℕ
 STATIC_ROW = 24
 
 abbrev pub ID_ROW : ℕ
-ID_ROW = 16
+ID_ROW = 8
 
 -- the least lengths of the working buffers
 abbrev pub BLOCK_TABLE : ℕ

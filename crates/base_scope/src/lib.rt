@@ -42,7 +42,7 @@ pub const LATE_ROW: usize = 12;
 
 pub const STATIC_ROW: usize = 24;
 
-pub const ID_ROW: usize = 16;
+pub const ID_ROW: usize = 8;
 
 // The least lengths of the working buffers (docs/SIZES.md).
 pub const BLOCK_TABLE: usize = 49152;
@@ -61,7 +61,7 @@ pub const USED_TABLE: usize = 4096;
 
 pub const GLABEL_TABLE: usize = 16384;
 
-pub const ID_TABLE: usize = 196608;
+pub const ID_TABLE: usize = 98304;
 
 pub const POSITION_TABLE: usize = 49152;
 

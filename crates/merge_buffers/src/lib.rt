@@ -3,7 +3,7 @@
 
 pub const ROWS_AT: usize = 49152;
 
-pub const BLOCK_BUFFER: usize = 245760;
+pub const BLOCK_BUFFER: usize = 147456;
 
 pub const HOLDERS_AT: usize = 32768;
 

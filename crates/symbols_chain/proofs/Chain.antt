@@ -6,12 +6,10 @@ use native.Mathlib.Omega.{arith}
 use lib.ListN.{length}
 use Rattle.base_fields.specs.declared.ByteOrder.{ByteOrder}
 use Rattle.base_scope.specs.Limits.{ID_LIMIT, ID_ROW}
-use Rattle.base_index.specs.Index.{hashOf}
 use Rattle.symbols_names.specs.declared.Sources.{Sources}
-use Rattle.symbols_rows.specs.Rows.{idHash, RowsOf}
-use Rattle.symbols_rows.specs.Steps.{idsListed, Listing, Positions}
-use Rattle.symbols_rows.proofs.Rows.{row-fields}
-use Rattle.symbols_rows.proofs.Tables.{rows-of, list-of, positions-of}
+use Rattle.symbols_rows.specs.Rows.{RowsOf}
+use Rattle.symbols_rows.specs.Steps.{idsListed, Listing}
+use Rattle.symbols_rows.proofs.Tables.{rows-of, list-of}
 use Rattle.symbols_holders.specs.Ready.{idCount, idName, HoldersReady}
 use Rattle.symbols_holders.proofs.Holders.{list-few}
 use Rattle.symbols_fill.specs.declared.Filling.{Filling}
@@ -26,10 +24,6 @@ module _ (C A U late : List ℕ) (f : Filling) (q : PlacesReady C A U late f) (b
     rows-named =
         rows-of T (idCount (f .sources)) (idName (f .inputs .order) C A U (f .sources)) (rowOf C A U late f) (ids-few C A U late f q) (omega (arith, r .long, long)) (r .rows) (λ i l. refl) (λ i l. refl)
 
-    rows-hashed : (i : ℕ) → i < idCount (f .sources) → idHash T i ≡ hashOf (idName (f .inputs .order) C A U (f .sources) i)
-    unfolding rowOf
-    rows-hashed i h = row-fields T i (rowOf C A U late f i) (r .rows i h) .hash
-
     -- what it leaves
     pub symbols-listed : (B L : List ℕ) (m : ℕ) → 4 * idCount (f .sources) ≤ length B → Listing (idsListed T n) 0 m B L → SymbolsListed C A U late f T L m
     symbols-listed B L m room w =
@@ -40,14 +34,10 @@ module _ (C A U late : List ℕ) (f : Filling) (q : PlacesReady C A U late f) (b
             read = q .names;
             rows = rows-named;
             list = list-of T (idCount (f .sources)) m B L room v (idName (f .inputs .order) C A U (f .sources));
-            hashes = rows-hashed;
           };
         }
 
 -- what indexing asks
 module _ (o : ByteOrder) (C A U : List ℕ) (s : Sources) (T L : List ℕ) (m : ℕ) (h : HoldersReady o C A U s T L m) where
-  pub ready-positions : Positions T L m
-  ready-positions = positions-of T (idCount s) (idName o C A U s) (h .rows) L m (h .list)
-
   pub ready-few : m ≤ ID_LIMIT
   ready-few = list-few T L (idCount s) m (idName o C A U s) (h .rows) (h .list)

@@ -9,7 +9,6 @@ use Rattle.base_lists.specs.Windows.{Within}
 use Rattle.base_fields.specs.declared.ByteOrder.{ByteOrder}
 use Rattle.base_packed.specs.Packed.{bindingOf}
 use Rattle.base_scope.specs.Limits.{ID_ROW}
-use Rattle.base_index.specs.Index.{hashOf}
 use Rattle.base_scope.specs.Codes.{LATE_TARGET}
 use Rattle.elf_records.specs.declared.symbol.SymbolEntry.{SymbolEntry}
 use Rattle.elf_readers.specs.Readers.{codedContents}
@@ -26,7 +25,7 @@ use Rattle.symbols_taken.specs.Code.{usedBytes}
 use Rattle.symbols_ids.specs.Entries.{entryA}
 use Rattle.symbols_ids.specs.Ids.{byOrigin, nameOf, entryStatic, entryOf, candidates}
 use Rattle.symbols_names.proofs.Names.{ids-held}
-use Rattle.symbols_rows.specs.Rows.{idHash, RowsOf, ListOf}
+use Rattle.symbols_rows.specs.Rows.{RowsOf, ListOf}
 use Rattle.symbols_rows.proofs.Rows.{row-fields}
 use Rattle.symbols_rows.proofs.Tables.{rows-of, filled-agree}
 use Rattle.symbols_holders.specs.Ready.{idCount, idName, symbolsIn, HoldersReady}
@@ -115,14 +114,9 @@ module _ (C A : List ℕ) (P : List Place) (B T late : List ℕ) (f : Filling) (
     fill-rows-of h =
         rows-of after (idCount (f .sources)) (idName o C A T (f .sources)) (rowOf C A T late f) (ids-few C A T late f places-ready) (omega (arith, r .long, h)) (r .rows) (λ i l. refl) (λ i l. refl)
 
-    -- and so are their hashes
-    pub fill-hashes : (i : ℕ) → i < idCount (f .sources) → idHash after i ≡ hashOf (idName o C A T (f .sources) i)
-    unfolding rowOf
-    fill-hashes i h = row-fields after i (rowOf C A T late f i) (r .rows i h) .hash
-
     -- so that the holders of their list can be found
     pub fill-holders : ID_ROW * idCount (f .sources) ≤ length before → (L : List ℕ) (p : ℕ) → ListOf (symbolsIn o C A T (f .sources) after) L p → HoldersReady o C A T (f .sources) after L p
-    fill-holders h L p l = record { read = s .names; rows = fill-rows-of h; list = l; hashes = fill-hashes }
+    fill-holders h L p l = record { read = s .names; rows = fill-rows-of h; list = l }
 
     -- the candidates that the rows tell of agree with those of the merge: one list, one verdict, one number each (symbols_merge, proofs/Agree.antt)
     pub fill-agree : Agree (symbolsIn o C A T (f .sources) after) (candidates o C A P B (f .mode) S)

@@ -18,6 +18,9 @@ use Rattle.symbols_fill.specs.Fill.{rowOf, PlacesReady, FilledRows}
 pub row-written : (L m : List ℕ) (i : ℕ) (x y : IdRow) → m ≡ spliced L (ID_ROW * i) (idRowBytes x) → x ≡ y → m ≡ spliced L (ID_ROW * i) (idRowBytes y)
 row-written L m i x y e is = e ∙ rw is
 
+pub binding-is : (x y : IdRow) → x ≡ y → x .binding < 16 → y .binding < 16
+binding-is x y is h = rw is at h
+
 module _ (C A T late : List ℕ) (f : Filling) where
   pub ids-few : PlacesReady C A T late f → idCount (f .sources) ≤ ID_LIMIT
   ids-few q = let h = rows-held (f .inputs .order) C A T (f .sources) (q .names) in omega (arith, h .symbols, h .few)
@@ -30,10 +33,10 @@ module _ (C A T late : List ℕ) (f : Filling) where
   pub far-none : (L : List ℕ) → SoFar L 0 L
   far-none L = record { long = refl; rows = filled-none (rowOf C A T late f) L }
 
-  pub far-next : (before L m : List ℕ) (i : ℕ) → SoFar before i L → ID_ROW * i + ID_ROW ≤ length L → m ≡ spliced L (ID_ROW * i) (idRowBytes (rowOf C A T late f i)) → SoFar before (i + 1) m
-  far-next before L m i s h e = record {
+  pub far-next : (before L m : List ℕ) (i : ℕ) → SoFar before i L → ID_ROW * i + ID_ROW ≤ length L → rowOf C A T late f i .binding < 16 → m ≡ spliced L (ID_ROW * i) (idRowBytes (rowOf C A T late f i)) → SoFar before (i + 1) m
+  far-next before L m i s h small e = record {
     long = ap length e ∙ written-long L i (rowOf C A T late f i) h ∙ s .long;
-    rows = rw e (filled-next (rowOf C A T late f) L i h (s .rows));
+    rows = rw e (filled-next (rowOf C A T late f) L i h small (s .rows));
   }
 
   pub far-all : (before L : List ℕ) (i n : ℕ) → SoFar before i L → i ≤ n → n ≤ i → n ≡ idCount (f .sources) → FilledRows C A T late f before n L

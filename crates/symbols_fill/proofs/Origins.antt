@@ -10,7 +10,6 @@ use borrow.Author.Tests.{lt-ltb, le-ltb}
 use Rattle.base_lists.specs.Strings.{same}
 use Rattle.base_lists.proofs.Ranges.{by-lt}
 use Rattle.base_fields.specs.declared.ByteOrder.{ByteOrder}
-use Rattle.base_index.specs.Index.{hashOf}
 use Rattle.base_scope.specs.Limits.{SYMBOL_LIMIT}
 use Rattle.base_scope.specs.Text.{text}
 use Rattle.elf_symbols.specs.Symbols.{symbolCount, symbolPlace, Tabled}
@@ -128,8 +127,8 @@ place-none t p e = rw e
 -- ---- rows
 
 module _ (C A T late : List ℕ) (f : Filling) (i : ℕ) where
-  pub row-is : (t u g : Bool) (p : SymbolPlace) (h : ℕ) → t ≡ isTaken (f .inputs .order) C A i → p ≡ takenPlace t (idPlace C A T late f i)
-      → u ≡ eqb (length (idName (f .inputs .order) C A T (f .sources) i)) 0 → g ≡ same (idName (f .inputs .order) C A T (f .sources) i) (text "_gp_disp") → h ≡ hashOf (idName (f .inputs .order) C A T (f .sources) i)
-      → _≡_ {A = IdRow} (record { taken = t; unnamed = u; «gp_disp» = g; binding = p .binding; section = p .section; value = p .value; hash = h }) (rowOf C A T late f i)
+  pub row-is : (t u g : Bool) (p : SymbolPlace) → t ≡ isTaken (f .inputs .order) C A i → p ≡ takenPlace t (idPlace C A T late f i)
+      → u ≡ eqb (length (idName (f .inputs .order) C A T (f .sources) i)) 0 → g ≡ same (idName (f .inputs .order) C A T (f .sources) i) (text "_gp_disp")
+      → _≡_ {A = IdRow} (record { taken = t; unnamed = u; «gp_disp» = g; binding = p .binding; section = p .section; value = p .value }) (rowOf C A T late f i)
   unfolding rowOf
-  row-is t u g p h taken place unnamed gp hash = rw (place, taken, unnamed, gp, hash)
+  row-is t u g p taken place unnamed gp = rw (place, taken, unnamed, gp)

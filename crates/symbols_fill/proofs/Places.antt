@@ -1,6 +1,6 @@
 -- What each way through the code says of a place: a late place is a word of the table, and sections are at most as many as an object may have. Assumes nothing.
 use Prim.Native.Nat.{ℕ, _+_, _-_, _*_, _/_, _^_, _≤_, _<_}
-use mathlib.Core.Path.{_≡_, sym, _∙_}
+use mathlib.Core.Path.{_≡_, refl, sym, _∙_}
 use mathlib.Core.Bool.{Bool, true, false, _&&_}
 use mathlib.Core.List.{List}
 use native.Mathlib.Omega.{arith}
@@ -10,13 +10,16 @@ use borrow.Author.Tests.{eq-eqb, ne-eqb}
 use Rattle.base_lists.proofs.Ranges.{by-test, first-high}
 use Rattle.base_fields.specs.declared.ByteOrder.{ByteOrder}
 use Rattle.base_fields.specs.declared.ByteOrder.the-variants.{Big}
+use Rattle.base_fields.specs.Numbers.{number}
+use Rattle.base_fields.specs.Layouts.{fieldsFrom}
 use Rattle.base_fields.proofs.Numbers.{number-lt}
 use Rattle.base_packed.specs.Packed.{bindingOf}
 use Rattle.base_scope.specs.Codes.{LATE-RODATA, targetCode}
 use Rattle.base_scope.specs.Limits.{LATE_ROW, LATE_WORDS}
 use Rattle.elf_records.specs.declared.symbol.SymbolEntry.{SymbolEntry}
+use Rattle.elf_records.specs.Symbol.{symbolLayout, symbolFrom, symbolAt}
 use Rattle.elf_readers.specs.Readers.{sectionCount, sectionNamed, codedSection}
-use Rattle.elf_symbols.specs.Symbols.{symbol}
+use Rattle.elf_symbols.specs.Symbols.{symbolPlace, symbol}
 use Rattle.elf_check.specs.declared.View.{View}
 use Rattle.elf_check.specs.View.{sectionIn, Viewed}
 use Rattle.elf_check.proofs.Views.{view-section}
@@ -33,6 +36,14 @@ use Rattle.symbols_fill.specs.declared.Filling.{Filling}
 use Rattle.symbols_fill.specs.Fill.{placeByEntry, placeC, latePlaceIn, lateValueIn, indexA, placeA, placeStatic, SmallSections}
 
 -- ---- sections
+
+-- an entry's section index is one half of it
+index-word : (o : ByteOrder) (F : List ℕ) (k : ℕ) → symbol o F k .«st_shndx» ≡ number o 2 F (symbolPlace o F k + 14)
+unfolding symbol symbolAt symbolFrom symbolLayout fieldsFrom
+index-word o F k = refl
+
+pub index-lt : (o : ByteOrder) (F : List ℕ) (k : ℕ) (s : SymbolEntry) → s ≡ symbol o F k → ((i : ℕ) → getD F i 0 < 256) → s .«st_shndx» < 65536
+index-lt o F k s is small = rw (is, index-word o F k) (number-lt o 2 F (symbolPlace o F k + 14) small)
 
 coded-le : (o : ByteOrder) (F : List ℕ) (c : ℕ) → codedSection o F c ≤ sectionCount o F
 unfolding codedSection sectionNamed

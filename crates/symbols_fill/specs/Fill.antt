@@ -10,7 +10,6 @@ use Rattle.base_lists.specs.Strings.{same}
 use Rattle.base_lists.specs.Windows.{Within}
 use Rattle.base_fields.specs.declared.ByteOrder.{ByteOrder}
 use Rattle.base_packed.specs.Packed.{bindingOf}
-use Rattle.base_index.specs.Index.{hashOf}
 use Rattle.base_scope.specs.Text.{text}
 use Rattle.base_scope.specs.Codes.{LATE-RODATA, CODES, targetCode}
 use Rattle.base_scope.specs.Limits.{SECTION_LIMIT, STATIC_LIMIT, STATIC_ROW}
@@ -99,7 +98,6 @@ module _ (C A T late : List ℕ) (f : Filling) where
     binding = takenPlace (isTaken (f .inputs .order) C A i) (idPlace i) .binding;
     section = takenPlace (isTaken (f .inputs .order) C A i) (idPlace i) .section;
     value = takenPlace (isTaken (f .inputs .order) C A i) (idPlace i) .value;
-    hash = hashOf (idName (f .inputs .order) C A T (f .sources) i);
   }
 
 -- ---- what is in hand

@@ -11,7 +11,7 @@ ghost use Rattle.elf_symbols.specs.Symbols.{symbolPlace, symbolCount, Tabled};
 ghost use Rattle.elf_check.specs.View.{sectionIn, Viewed};
 ghost use Rattle.symbols_taken.specs.Taken.{isTakenC, isTakenA, isPlacedIn};
 ghost use Rattle.symbols_taken.specs.Code.{usedBytes, LateIn};
-ghost use Rattle.symbols_rows.specs.Rows.{idRowBytes};
+ghost use Rattle.symbols_rows.specs.Rows.{Fits, idRowBytes};
 ghost use Rattle.symbols_holders.specs.Ready.{idCount};
 ghost use Rattle.symbols_fill.specs.Fill.{placeC, latePlaceIn, lateValueIn, placeA, placeStatic, idPlace, takenPlace, isTaken, rowOf, SmallSections, AtSource, AtStatic, PlacesReady, FillReady, FilledRows};
 use base_fields::ByteOrder;
@@ -41,7 +41,7 @@ pub struct SymbolPlace {
 // The section of a code, as an entry has it.
 fn code_section(view: View, code: u32) -> u32
     requires { ⌜ SmallSections view × (1 ≤ code) × (code ≤ CODES) ⌝ }
-    ensures { λ r. ⌜ r ≡ sectionIn view code ⌝ }
+    ensures { λ r. ⌜ (r ≡ sectionIn view code) × (r < 65536) ⌝ }
 {
     view.section(code) as u32
 }
@@ -49,7 +49,7 @@ fn code_section(view: View, code: u32) -> u32
 // C's symbol k: it stays where it is.
 pub fn place_c(order: ByteOrder, compiled: &[u8], at: usize, k: usize) -> SymbolPlace
     requires { ⌜ Tabled order (now compiled) × (at ≡ symbolPlace order (now compiled) 0) × (k < symbolCount order (now compiled)) ⌝ }
-    ensures { λ r. ⌜ (r ≡ placeC order (now (compiled .entry)) k) × (r .binding < 16) ⌝ }
+    ensures { λ r. ⌜ (r ≡ placeC order (now (compiled .entry)) k) × Fits (r .binding) (r .section) ⌝ }
 {
     let entry = elf_symbols::symbol_at(order, compiled, at, k);
     let binding = base_packed::binding_of(entry.st_info);
@@ -95,7 +95,7 @@ fn late_value(code: u32, runs: bool, late: &[u8], blocks: usize, x: u32) -> u32
 // A's symbol k: in C's section of the target where its index is a section's.
 pub fn place_a(assembled: &[u8], late: &[u8], filling: Filling, k: usize) -> SymbolPlace
     requires { ⌜ AtSource (now assembled) (now late) filling k ⌝ }
-    ensures { λ r. ⌜ (r ≡ placeA (now (assembled .entry)) (now (late .entry)) filling k) × (r .binding < 16) ⌝ }
+    ensures { λ r. ⌜ (r ≡ placeA (now (assembled .entry)) (now (late .entry)) filling k) × Fits (r .binding) (r .section) ⌝ }
 {
     let inputs = filling.inputs;
     let order = inputs.order;
@@ -124,7 +124,7 @@ pub fn place_a(assembled: &[u8], late: &[u8], filling: Filling, k: usize) -> Sym
 // Static k: in C's section of its code.
 pub fn place_static(statics: &[u8], filling: Filling, k: usize) -> SymbolPlace
     requires { ⌜ AtStatic (now statics) filling k ⌝ }
-    ensures { λ r. ⌜ (r ≡ placeStatic (now (statics .entry)) filling k) × (r .binding < 16) ⌝ }
+    ensures { λ r. ⌜ (r ≡ placeStatic (now (statics .entry)) filling k) × Fits (r .binding) (r .section) ⌝ }
 {
     let inputs = filling.inputs;
     let s = Static::read(statics, k);
@@ -146,7 +146,7 @@ fn place_of(
     id: usize,
 ) -> SymbolPlace
     requires { ⌜ PlacesReady (now compiled) (now assembled) (now statics) (now late) filling × (id < idCount (filling .sources)) ⌝ }
-    ensures { λ r. ⌜ (r ≡ idPlace (now (compiled .entry)) (now (assembled .entry)) (now (statics .entry)) (now (late .entry)) filling id) × (r .binding < 16) ⌝ }
+    ensures { λ r. ⌜ (r ≡ idPlace (now (compiled .entry)) (now (assembled .entry)) (now (statics .entry)) (now (late .entry)) filling id) × Fits (r .binding) (r .section) ⌝ }
 {
     let sources = filling.sources;
     let own = sources.compiled;
@@ -175,7 +175,7 @@ fn taken_place(
     id: usize,
 ) -> SymbolPlace
     requires { ⌜ PlacesReady (now compiled) (now assembled) (now statics) (now late) filling × (id < idCount (filling .sources)) ⌝ }
-    ensures { λ r. ⌜ (r ≡ takenPlace taken (idPlace (now (compiled .entry)) (now (assembled .entry)) (now (statics .entry)) (now (late .entry)) filling id)) × (r .binding < 16) ⌝ }
+    ensures { λ r. ⌜ (r ≡ takenPlace taken (idPlace (now (compiled .entry)) (now (assembled .entry)) (now (statics .entry)) (now (late .entry)) filling id)) × Fits (r .binding) (r .section) ⌝ }
 {
     if taken {
         return place_of(compiled, assembled, statics, late, filling, id);
@@ -240,7 +240,7 @@ pub fn row_of<'a>(
     id: usize,
 ) -> IdRow
     requires { ⌜ FillReady (now compiled) (now assembled) (now statics) (now used) (now late) filling × (id < idCount (filling .sources)) ⌝ }
-    ensures { λ r. ⌜ (r ≡ rowOf (now (compiled .entry)) (now (assembled .entry)) (now (statics .entry)) (now (late .entry)) filling id) × (r .binding < 16) ⌝ }
+    ensures { λ r. ⌜ (r ≡ rowOf (now (compiled .entry)) (now (assembled .entry)) (now (statics .entry)) (now (late .entry)) filling id) × Fits (r .binding) (r .section) ⌝ }
 {
     let inputs = filling.inputs;
     let order = inputs.order;
@@ -254,7 +254,6 @@ pub fn row_of<'a>(
         binding: place.binding,
         section: place.section,
         value: place.value,
-        hash: symbols_holders::name_hash(order, compiled, assembled, statics, sources, id),
     }
 }
 
@@ -271,7 +270,8 @@ fn fill_row<'a>(
 )
     requires { ⌜ FillReady (now compiled) (now assembled) (now statics) (now used) (now late) filling × (id < idCount (filling .sources))
         × (ID_ROW * id + ID_ROW ≤ length (now rows)) ⌝ }
-    ensures { λ _. ⌜ now (rows .exit) ≡ spliced (now (rows .entry)) (ID_ROW * id) (idRowBytes (rowOf (now (compiled .entry)) (now (assembled .entry)) (now (statics .entry)) (now (late .entry)) filling id)) ⌝ }
+    ensures { λ _. ⌜ (now (rows .exit) ≡ spliced (now (rows .entry)) (ID_ROW * id) (idRowBytes (rowOf (now (compiled .entry)) (now (assembled .entry)) (now (statics .entry)) (now (late .entry)) filling id)))
+        × (rowOf (now (compiled .entry)) (now (assembled .entry)) (now (statics .entry)) (now (late .entry)) filling id .binding < 16) ⌝ }
 {
     let row = row_of(compiled, assembled, statics, used, late, filling, id);
     symbols_rows::write_id(rows, id, row);

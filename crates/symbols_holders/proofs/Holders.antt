@@ -15,7 +15,7 @@ use Rattle.base_scope.specs.Limits.{ID_LIMIT}
 use Rattle.base_groups.specs.Holders.{holder}
 use Rattle.base_groups.proofs.Holders.{holder-alike}
 use Rattle.base_fields.specs.declared.ByteOrder.{ByteOrder}
-use Rattle.base_index.specs.Index.{bucketOf, hashIn, nextIn, headIn}
+use Rattle.base_index.specs.Index.{hashOf, bucketOf, hashIn, nextIn, headIn}
 use Rattle.base_index.proofs.Index.{Reached, Implies, reach-here, reach-first, reach-next}
 use Rattle.base_index.proofs.Hashes.{same-hash}
 use Rattle.symbols_merge.specs.Candidates.{Candidates, isUnnamed}
@@ -23,12 +23,12 @@ use Rattle.symbols_merge.specs.Listed.{listed, listedAt, isAlike, holderOf}
 use Rattle.symbols_merge.proofs.Names.{alike-named, alike-name, unnamed-one, alike-parts}
 use Rattle.symbols_names.specs.declared.Sources.{Sources}
 use Rattle.symbols_rows.specs.declared.IdRow.{IdRow}
-use Rattle.symbols_rows.specs.Rows.{idUnnamed, idHash, idRow, candidatesIn, RowsOf, wordIn, ListOf}
+use Rattle.symbols_rows.specs.Rows.{idUnnamed, idRow, candidatesIn, RowsOf, wordIn, ListOf}
 use Rattle.symbols_rows.specs.Steps.{idsListed, Position}
 use Rattle.symbols_rows.proofs.Rows.{row-fields}
 use Rattle.symbols_rows.proofs.Listing.{listed-names, listed-few}
 use Rattle.symbols_rows.proofs.Tables.{list-long, list-at, list-taken, positions-of}
-use Rattle.symbols_holders.specs.Ready.{ListIndexed, PositionHeld, HoldersReady, idCount, idName, symbolsIn, alikeIn, PositionReady}
+use Rattle.symbols_holders.specs.Ready.{ListIndexed, ListHeld, PositionHeld, HoldersReady, idCount, idName, symbolsIn, alikeIn, PositionReady}
 
 -- the walk for the holder of position p stands at k
 abbrev pub Walked : ByteOrder → List ℕ → List ℕ → List ℕ → Sources → List ℕ → List ℕ → ℕ → ℕ → Type 0
@@ -50,6 +50,11 @@ pub list-few : (T L : List ℕ) (n m : ℕ) (name : ℕ → List ℕ) → RowsOf
 unfolding idsListed
 list-few T L n m name rows list =
     omega (arith, rows .few, list-long (candidatesIn T n name) L m list, ap length (listed-names T n name (λ i. [])), listed-few T n)
+
+-- each position of the list has its word, and that is an id
+pub list-held : (o : ByteOrder) (C A U : List ℕ) (s : Sources) (T L : List ℕ) (m : ℕ) → HoldersReady o C A U s T L m → ListHeld s L m
+unfolding candidatesIn
+list-held o C A U s T L m h p l = (omega (arith, h .list .long), list-taken (symbolsIn o C A U s T) L m (h .list) p l .0)
 
 -- S are the candidates in hand, and p is a position of their list of m
 module _ (o : ByteOrder) (C A U : List ℕ) (s : Sources) (T L I : List ℕ) (items p : ℕ) (q : PositionReady o C A U s T L I items p) where
@@ -84,13 +89,13 @@ module _ (o : ByteOrder) (C A U : List ℕ) (s : Sources) (T L I : List ℕ) (it
 
   -- ---- hashes
 
-  -- the ids of positions that are alike have one hash
-  pub alike-ids : (k : ℕ) → k < m → isAlike S p k ≡ true → idHash T (wordIn L k) ≡ idHash T (wordIn L p)
+  -- the names of positions that are alike have one hash
+  pub alike-ids : (k : ℕ) → k < m → isAlike S p k ≡ true → hashOf (name (wordIn L k)) ≡ hashOf (name (wordIn L p))
   unfolding candidatesIn
   alike-ids k l t =
       let e : name (listedAt S p) ≡ name (listedAt S k) = alike-name S p k t in
       let f : name (wordIn L p) ≡ name (wordIn L k) = rw (word-at p (q .low), word-at k l) at e in
-      q .ready .hashes (wordIn L k) (id-low k l) ∙ same-hash _ _ (sym f) ∙ sym (q .ready .hashes (wordIn L p) (id-low p (q .low)))
+      same-hash _ _ (sym f)
 
   implied : Implies (isAlike S p) (hashIn I p) I m
   implied k l t = q .index .hashed .each k l ∙ alike-ids k l t ∙ sym (q .index .hashed .each p (q .low))
@@ -121,6 +126,10 @@ module _ (o : ByteOrder) (C A U : List ℕ) (s : Sources) (T L I : List ℕ) (it
     first-to (isAlike S p) 0 m p (omega arith) (q .low) (alike-parts S .itself p),
   )
 
+  -- the walk starts at the head of the bucket of its hash
+  pub walk-first : (h k : ℕ) → h ≡ hashIn I p → k ≡ headIn ID_LIMIT I (bucketOf items h) → Walked o C A U s T I p k
+  walk-first h k g e = rw (e, q .many, g) (reach-first (isAlike S p) (hashIn I p) I m implied ID_LIMIT (q .index .indexed))
+
   -- the row of p's id
   module _ (row : IdRow) (is : row ≡ idRow T (wordIn L p)) where
     unnamed-told : idUnnamed T (wordIn L p) ≡ row .unnamed
@@ -131,12 +140,6 @@ module _ (o : ByteOrder) (C A U : List ℕ) (s : Sources) (T L I : List ℕ) (it
     unfolding holderOf
     own-unnamed t =
         unnamed-one S p (holderOf S p) (sym unnamed-here ∙ unnamed-told ∙ t) (holder-alike (isAlike S) (length (listed S)) (alike-parts S) p (q .low))
-
-    -- the walk starts at the head of the bucket of its hash
-    pub walk-first : (k : ℕ) → k ≡ headIn ID_LIMIT I (bucketOf items (row .hash)) → Walked o C A U s T I p k
-    walk-first k e =
-        let g : row .hash ≡ hashIn I p = sym (q .index .hashed .each p (q .low) ∙ row-fields T (wordIn L p) row (sym is) .hash) in
-        rw (e, q .many, g) (reach-first (isAlike S p) (hashIn I p) I m implied ID_LIMIT (q .index .indexed))
 
     -- r is what the comparison with k said
     module _ (named : row .unnamed ≡ false) (k : ℕ) (w : Walked o C A U s T I p k) (r : Bool) (l : k < p) (told : r ≡ alikeIn o C A U s L I p k) where
@@ -154,7 +157,7 @@ module _ (o : ByteOrder) (C A U : List ℕ) (s : Sources) (T L I : List ℕ) (it
 
 -- a list of m positions is the whole list
 pub ready-at : (o : ByteOrder) (C A U : List ℕ) (s : Sources) (T L I : List ℕ) (m p : ℕ)
-    → HoldersReady o C A U s T L m → ListIndexed T L I m → p < m → PositionReady o C A U s T L I m p
+    → HoldersReady o C A U s T L m → ListIndexed (idName o C A U s) L I m → p < m → PositionReady o C A U s T L I m p
 ready-at o C A U s T L I m p ready index low =
     let e : m ≡ length (listed (symbolsIn o C A U s T)) = list-long (symbolsIn o C A U s T) L m (ready .list) in
     record { many = e; low = rw e at low; ready = rw e at ready; index = rw e at index }

@@ -11,35 +11,34 @@ use Rattle.base_fields.specs.declared.ByteOrder.the-variants.{Big}
 use Rattle.base_fields.specs.Numbers.{encoded}
 use Rattle.base_fields.proofs.Numbers.{length-encoded}
 use Rattle.base_scope.specs.Limits.{ID_LIMIT}
-use Rattle.base_index.specs.Index.{hashPlace, Built}
+use Rattle.base_index.specs.Index.{hashOf, hashPlace, Built}
 use Rattle.base_index.proofs.Table.{withWord, word-long, word-same, word-other, hash-same, hash-other}
 use Rattle.symbols_merge.specs.Candidates.{Candidates}
 use Rattle.symbols_merge.specs.Listed.{holderOf}
-use Rattle.symbols_rows.specs.declared.IdRow.{IdRow}
-use Rattle.symbols_rows.specs.Rows.{idHash, idRow, wordIn}
-use Rattle.symbols_rows.proofs.Rows.{row-fields}
+use Rattle.symbols_rows.specs.Rows.{wordIn}
 use Rattle.symbols_holders.specs.Ready.{Hashed, ListIndexed, NamesHeld}
 
 -- ---- hashes put
 
--- what `put_hash` reads and writes, in its order: the row of the id at p, the word
-pub hash-put : (I J T L : List ℕ) (p : ℕ) (row : IdRow) → row ≡ idRow T (wordIn L p) → J ≡ withWord I (hashPlace p) (row .hash)
-    → J ≡ withWord I (hashPlace p) (idHash T (wordIn L p))
-hash-put I J T L p row is put = put ∙ ap (withWord I (hashPlace p)) (sym (row-fields T (wordIn L p) row (sym is) .hash))
+module _ (name : ℕ → List ℕ) (L : List ℕ) where
+  -- what `put_hash` reads and writes, in its order: the id at p, the hash of its name, the word
+  pub hash-put : (I J : List ℕ) (p i h : ℕ) → i ≡ wordIn L p → h ≡ hashOf (name i) → J ≡ withWord I (hashPlace p) h
+      → J ≡ withWord I (hashPlace p) (hashOf (name (wordIn L p)))
+  hash-put I J p i h id is put = put ∙ ap (withWord I (hashPlace p)) (is ∙ ap (λ (k : ℕ). hashOf (name k)) id)
 
-pub hashed-none : (T L I : List ℕ) → Hashed T L I 0
-hashed-none T L I = record { each = λ p l. absurd (omega arith) }
+  pub hashed-none : (I : List ℕ) → Hashed name L I 0
+  hashed-none I = record { each = λ p l. absurd (omega arith) }
 
-pub hashed-next : (T L I J : List ℕ) (p : ℕ) → hashPlace p + 4 ≤ length I → J ≡ withWord I (hashPlace p) (idHash T (wordIn L p)) → Hashed T L I p → Hashed T L J (p + 1)
-hashed-next T L I J p fits e h = rw e (record {
-  each = λ k l. by-last k p (omega arith)
-      (λ d. hash-other I p (idHash T (wordIn L p)) fits k (λ q. absurd (omega arith)) ∙ h .each k d)
-      (λ q. rw q (hash-same I p (idHash T (wordIn L p)) fits));
-})
+  pub hashed-next : (I J : List ℕ) (p : ℕ) → hashPlace p + 4 ≤ length I → J ≡ withWord I (hashPlace p) (hashOf (name (wordIn L p))) → Hashed name L I p → Hashed name L J (p + 1)
+  hashed-next I J p fits e h = rw e (record {
+    each = λ k l. by-last k p (omega arith)
+        (λ d. hash-other I p (hashOf (name (wordIn L p))) fits k (λ q. absurd (omega arith)) ∙ h .each k d)
+        (λ q. rw q (hash-same I p (hashOf (name (wordIn L p))) fits));
+  })
 
--- building the index keeps the hashes
-pub list-indexed : (T L I J : List ℕ) (m : ℕ) → Hashed T L I m → Built ID_LIMIT m I J → ListIndexed T L J m
-list-indexed T L I J m h b = record { indexed = b .indexed; hashed = record { each = λ p l. b .kept p l ∙ h .each p l } }
+  -- building the index keeps the hashes
+  pub list-indexed : (I J : List ℕ) (m : ℕ) → Hashed name L I m → Built ID_LIMIT m I J → ListIndexed name L J m
+  list-indexed I J m h b = record { indexed = b .indexed; hashed = record { each = λ p l. b .kept p l ∙ h .each p l } }
 
 -- ---- holders put
 

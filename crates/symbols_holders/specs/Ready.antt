@@ -16,20 +16,24 @@ use Rattle.symbols_merge.specs.Listed.{listed}
 use Rattle.symbols_ids.specs.Ids.{nameOf}
 use Rattle.symbols_names.specs.declared.Sources.{Sources}
 use Rattle.symbols_names.specs.Names.{firstIn, SourcesRead}
-use Rattle.symbols_rows.specs.Rows.{idHash, candidatesIn, RowsOf, wordIn, ListOf, HoldersOf}
+use Rattle.symbols_rows.specs.Rows.{candidatesIn, RowsOf, wordIn, ListOf, HoldersOf}
 
--- each of the first m items of the index has the hash of its position's id
-pub record Hashed (T L I : List ℕ) (m : ℕ) : Type 0 where
-  pub each : (p : ℕ) → p < m → hashIn I p ≡ idHash T (wordIn L p)
+-- each of the first m items of the index has the hash of the name of its position's id
+pub record Hashed (name : ℕ → List ℕ) (L I : List ℕ) (m : ℕ) : Type 0 where
+  pub each : (p : ℕ) → p < m → hashIn I p ≡ hashOf (name (wordIn L p))
 
--- the list is indexed by the hashes of its ids
-pub record ListIndexed (T L I : List ℕ) (m : ℕ) : Type 0 where
+-- the list is indexed by the hashes of the names of its ids
+pub record ListIndexed (name : ℕ → List ℕ) (L I : List ℕ) (m : ℕ) : Type 0 where
   pub indexed : Indexed ID_LIMIT I m
-  pub hashed : Hashed T L I m
+  pub hashed : Hashed name L I m
 
 -- how many ids there are
 abbrev pub idCount : Sources → ℕ
 idCount s = firstIn s + s .statics
+
+-- each of the first m words of the list is an id
+abbrev pub ListHeld : Sources → List ℕ → ℕ → Type 0
+ListHeld s L m = (p : ℕ) → p < m → (4 * p + 4 ≤ length L) × (wordIn L p < idCount s)
 
 -- position p has its item in the index and its word in the list, and that is an id
 pub record PositionHeld (s : Sources) (L I : List ℕ) (p : ℕ) : Type 0 where
@@ -50,19 +54,18 @@ module _ (o : ByteOrder) (C A U : List ℕ) (s : Sources) where
   abbrev pub symbolsIn : List ℕ → Candidates
   symbolsIn T = candidatesIn T (idCount s) idName
 
-  -- names, rows and list in hand, the rows with the hashes of the names
+  -- names, rows and list in hand
   pub record HoldersReady (T L : List ℕ) (m : ℕ) : Type 0 where
     pub read : SourcesRead o C A U s
     pub rows : RowsOf T (idCount s) idName
     pub list : ListOf (symbolsIn T) L m
-    pub hashes : (i : ℕ) → i < idCount s → idHash T i ≡ hashOf (idName i)
 
   -- the same of the whole list of m positions, which is indexed, and a position p of it
   pub record PositionReady (T L I : List ℕ) (m p : ℕ) : Type 0 where
     pub many : m ≡ length (listed (symbolsIn T))
     pub low : p < length (listed (symbolsIn T))
     pub ready : HoldersReady T L (length (listed (symbolsIn T)))
-    pub index : ListIndexed T L I (length (listed (symbolsIn T)))
+    pub index : ListIndexed idName L I (length (listed (symbolsIn T)))
 
 -- the first m words are the holders of their positions, and what stands behind them is as before
 pub record NamesHeld (s : Candidates) (m : ℕ) (before after : List ℕ) : Type 0 where

@@ -1,5 +1,5 @@
 // The holders of the positions of the list of symbols: the first position of each working name, found through an index of the list by the names' hashes, so that
-// names are compared only where their hashes agree. A caller puts `name_hash` into the row of each id, indexes the list, and has the holders put. A holder is
+// names are compared only where their hashes agree. A caller indexes the list, and has the holders put. A holder is
 // `holderOf` in the crate symbols_merge, specs/Listed.antt; what is in hand, and what is left: specs/Ready.antt. Document 01, "Symbols": "Equal non-empty working names
 // merge, binding ignored".
 ghost use mathlib.Core.Path.{_≡_};
@@ -14,9 +14,8 @@ ghost use Rattle.base_scope.specs.Limits.{STATIC_LIMIT, ID_LIMIT};
 ghost use Rattle.statics_table.specs.Statics.{countTail};
 ghost use Rattle.symbols_merge.specs.Listed.{holderOf};
 ghost use Rattle.symbols_names.specs.Names.{SourcesRead};
-ghost use Rattle.symbols_rows.specs.Rows.{idHash, wordIn};
-ghost use Rattle.symbols_rows.specs.Steps.{Position, Positions};
-ghost use Rattle.symbols_holders.specs.Ready.{Hashed, ListIndexed, PositionHeld, alikeIn, idCount, idName, symbolsIn, HoldersReady, PositionReady, NamesHeld};
+ghost use Rattle.symbols_rows.specs.Rows.{wordIn};
+ghost use Rattle.symbols_holders.specs.Ready.{Hashed, ListIndexed, ListHeld, PositionHeld, alikeIn, idCount, idName, symbolsIn, HoldersReady, PositionReady, NamesHeld};
 use base_fields::ByteOrder;
 use symbols_names::Sources;
 
@@ -69,7 +68,7 @@ fn joined_hash(stored: &[u8], number: u32) -> u32
 }
 
 // The hash of the working name of an id.
-pub fn name_hash<'a>(
+fn name_hash<'a>(
     order: ByteOrder,
     compiled: &'a [u8],
     assembled: &'a [u8],
@@ -85,33 +84,80 @@ pub fn name_hash<'a>(
     joined_hash(stored, count)
 }
 
-// Puts the hash of the id at position p, as that of item p.
-fn put_hash(rows: &[u8], list: &[u8], p: usize, index: &mut [u8])
-    requires { ⌜ Position (now rows) (now list) p × (hashPlace p + 4 ≤ length (now index)) ⌝ }
-    ensures { λ _. ⌜ now (index .exit) ≡ spliced (now (index .entry)) (hashPlace p) (encoded Big 4 (idHash (now (rows .entry)) (wordIn (now (list .entry)) p))) ⌝ }
+// Puts the hash of the name of the id at position p, as that of item p.
+fn put_hash<'a>(
+    order: ByteOrder,
+    compiled: &'a [u8],
+    assembled: &'a [u8],
+    statics: &[u8],
+    sources: Sources,
+    list: &[u8],
+    p: usize,
+    index: &mut [u8],
+)
+    requires { ⌜ SourcesRead order (now compiled) (now assembled) (now statics) sources × PositionHeld sources (now list) (now index) p ⌝ }
+    ensures { λ _. ⌜ now (index .exit) ≡ spliced (now (index .entry)) (hashPlace p) (encoded Big 4
+        (hashOf (idName order (now (compiled .entry)) (now (assembled .entry)) (now (statics .entry)) sources (wordIn (now (list .entry)) p)))) ⌝ }
 {
-    let row = symbols_rows::row_at(rows, list, p);
-    base_index::put_hash(index, p, row.hash);
+    let id = symbols_rows::word_at(list, p);
+    let hash = name_hash(order, compiled, assembled, statics, sources, id);
+    base_index::put_hash(index, p, hash);
 }
 
-// Puts the hashes of the ids at the m positions of the list.
-fn put_hashes(rows: &[u8], list: &[u8], m: usize, index: &mut [u8])
-    requires { ⌜ Positions (now rows) (now list) m × (m ≤ ID_LIMIT) × Room ID_LIMIT (now index) ⌝ }
-    ensures { λ _. ⌜ Hashed (now (rows .entry)) (now (list .entry)) (now (index .exit)) m ⌝ }
+// Puts the hashes of the names of the ids at the m positions of the list.
+fn put_hashes<'a>(
+    order: ByteOrder,
+    compiled: &'a [u8],
+    assembled: &'a [u8],
+    statics: &[u8],
+    sources: Sources,
+    list: &[u8],
+    m: usize,
+    index: &mut [u8],
+)
+    requires { ⌜ SourcesRead order (now compiled) (now assembled) (now statics) sources × ListHeld sources (now list) m × (m ≤ ID_LIMIT) × Room ID_LIMIT (now index) ⌝ }
+    ensures { λ _. ⌜ Hashed (idName order (now (compiled .entry)) (now (assembled .entry)) (now (statics .entry)) sources) (now (list .entry)) (now (index .exit)) m ⌝ }
 {
     let mut k: usize = 0;
     while k < m {
-        put_hash(rows, list, k, index);
+        put_hash(
+            order,
+            compiled,
+            assembled,
+            statics,
+            sources,
+            list,
+            k,
+            index,
+        );
         k += 1;
     }
 }
 
-// Indexes the m positions of the list by the hashes of their ids.
-pub fn index_list(rows: &[u8], list: &[u8], m: usize, index: &mut [u8])
-    requires { ⌜ Positions (now rows) (now list) m × (m ≤ ID_LIMIT) × Room ID_LIMIT (now index) ⌝ }
-    ensures { λ _. ⌜ ListIndexed (now (rows .entry)) (now (list .entry)) (now (index .exit)) m ⌝ }
+// Indexes the m positions of the list by the hashes of the names of their ids.
+pub fn index_list<'a>(
+    order: ByteOrder,
+    compiled: &'a [u8],
+    assembled: &'a [u8],
+    statics: &[u8],
+    sources: Sources,
+    list: &[u8],
+    m: usize,
+    index: &mut [u8],
+)
+    requires { ⌜ SourcesRead order (now compiled) (now assembled) (now statics) sources × ListHeld sources (now list) m × (m ≤ ID_LIMIT) × Room ID_LIMIT (now index) ⌝ }
+    ensures { λ _. ⌜ ListIndexed (idName order (now (compiled .entry)) (now (assembled .entry)) (now (statics .entry)) sources) (now (list .entry)) (now (index .exit)) m ⌝ }
 {
-    put_hashes(rows, list, m, index);
+    put_hashes(
+        order,
+        compiled,
+        assembled,
+        statics,
+        sources,
+        list,
+        m,
+        index,
+    );
     base_index::build(index, base_scope::ID_LIMIT, m);
 }
 
@@ -159,7 +205,8 @@ pub fn holder_at<'a>(
     if row.unnamed {
         return p;
     }
-    let mut k = base_index::head_of(index, base_scope::ID_LIMIT, m, row.hash);
+    let hash = base_index::hash_at(index, p);
+    let mut k = base_index::head_of(index, base_scope::ID_LIMIT, m, hash);
     while k < p {
         if is_alike(
             order,
@@ -226,7 +273,7 @@ pub fn hold_names<'a>(
     holders: &mut [u8],
 )
     requires { ⌜ HoldersReady order (now compiled) (now assembled) (now statics) sources (now rows) (now list) m
-        × ListIndexed (now rows) (now list) (now index) m × (4 * m ≤ length (now holders)) ⌝ }
+        × ListIndexed (idName order (now compiled) (now assembled) (now statics) sources) (now list) (now index) m × (4 * m ≤ length (now holders)) ⌝ }
     ensures { λ _. ⌜ NamesHeld (symbolsIn order (now (compiled .entry)) (now (assembled .entry)) (now (statics .entry)) sources (now (rows .entry))) m
         (now (holders .entry)) (now (holders .exit)) ⌝ }
 {

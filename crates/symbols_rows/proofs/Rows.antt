@@ -1,5 +1,5 @@
--- A row that was written is read back, and every other row stays: the four words of a row stand one behind the other, and the kind word has a bit for each of three tests in
--- front of the binding. Assumes nothing.
+-- A row that was written is read back, and every other row stays: the two words of a row stand one behind the other, and the kind word has a bit for each of three tests in
+-- front of the binding and the section. Assumes nothing.
 use Prim.Native.Nat.{ℕ, _+_, _*_, _/_, _%_, _≤_, _<_}
 use mathlib.Core.Path.{_≡_, ap, _∙_}
 use mathlib.Core.Logic.{_≢_, inl, inr}
@@ -19,7 +19,7 @@ use Rattle.base_fields.specs.Numbers.{number, encoded}
 use Rattle.base_fields.proofs.Numbers.{length-encoded, within-number, number-outside}
 use Rattle.base_scope.specs.Limits.{ID_ROW}
 use Rattle.symbols_rows.specs.declared.IdRow.{IdRow}
-use Rattle.symbols_rows.specs.Rows.{kindWord, idKind, idTaken, idUnnamed, idGpDisp, idBinding, idSection, idValue, idHash, idRow, idRowBytes, wordIn, wordsIn}
+use Rattle.symbols_rows.specs.Rows.{kindWord, idKind, idTaken, idUnnamed, idGpDisp, idBinding, idSection, idValue, idRow, idRowBytes, wordIn, wordsIn}
 
 -- ---- the kind word
 
@@ -38,8 +38,8 @@ wide-bit : (b : Bool) (k : ℕ) → cond b k 0 ≡ k * bit b
 wide-bit true k = omega arith
 wide-bit false k = omega arith
 
-module _ (a b c : Bool) (x k : ℕ) (is : k ≡ kindWord a b c x) where
-  kind-parts : k ≡ bit a + 2 * bit b + 4 * bit c + 8 * x
+module _ (a b c : Bool) (x s k : ℕ) (is : k ≡ kindWord a b c x s) where
+  kind-parts : k ≡ bit a + 2 * bit b + 4 * bit c + 8 * x + 128 * s
   unfolding kindWord
   kind-parts = is ∙ rw (wide-bit b 2, wide-bit c 4)
 
@@ -52,8 +52,11 @@ module _ (a b c : Bool) (x k : ℕ) (is : k ≡ kindWord a b c x) where
   kind-gp : eqb (k / 4 % 2) 1 ≡ c
   kind-gp = bit-test c (k / 4 % 2) (omega (arith, kind-parts, bit-le a, bit-le b, bit-le c))
 
-  kind-binding : k / 8 ≡ x
-  kind-binding = omega (arith, kind-parts, bit-le a, bit-le b, bit-le c)
+  kind-binding : x < 16 → k / 8 % 16 ≡ x
+  kind-binding h = omega (arith, h, kind-parts, bit-le a, bit-le b, bit-le c)
+
+  kind-section : x < 16 → k / 128 ≡ s
+  kind-section h = omega (arith, h, kind-parts, bit-le a, bit-le b, bit-le c)
 
 -- ---- rows
 
@@ -69,7 +72,6 @@ pub record IsRow (T : List ℕ) (i : ℕ) (row : IdRow) : Type 0 where
   pub binding : idBinding T i ≡ row .binding
   pub section : idSection T i ≡ row .section
   pub value : idValue T i ≡ row .value
-  pub hash : idHash T i ≡ row .hash
 
 pub row-fields : (T : List ℕ) (i : ℕ) (row : IdRow) → idRow T i ≡ row → IsRow T i row
 unfolding idRow
@@ -80,34 +82,32 @@ row-fields T i row e = record {
   binding = ap (λ (r : IdRow). r .binding) e;
   section = ap (λ (r : IdRow). r .section) e;
   value = ap (λ (r : IdRow). r .value) e;
-  hash = ap (λ (r : IdRow). r .hash) e;
 }
 
 -- a row that stands in a table
-module _ (row : IdRow) (i : ℕ) (T : List ℕ) (w : Within (idRowBytes row) (ID_ROW * i) T) where
+module _ (row : IdRow) (small : row .binding < 16) (i : ℕ) (T : List ℕ) (w : Within (idRowBytes row) (ID_ROW * i) T) where
   abbrev words : List ℕ
-  words = kindWord (row .taken) (row .unnamed) (row .«gp_disp») (row .binding) ∷ row .section ∷ row .value ∷ row .hash ∷ []
+  words = kindWord (row .taken) (row .unnamed) (row .«gp_disp») (row .binding) (row .section) ∷ row .value ∷ []
 
-  within-word : (k : ℕ) → k < 4 → Within (encoded Big 4 (getD words k 0)) (4 * k) (idRowBytes row)
+  within-word : (k : ℕ) → k < 2 → Within (encoded Big 4 (getD words k 0)) (4 * k) (idRowBytes row)
   unfolding idRowBytes
   within-word k h = within-flat (encoded Big 4) 4 (length-encoded Big 4) words k 0 h
 
-  word-at : (k : ℕ) → k < 4 → number Big 4 T (ID_ROW * i + 4 * k) ≡ getD words k 0
+  word-at : (k : ℕ) → k < 2 → number Big 4 T (ID_ROW * i + 4 * k) ≡ getD words k 0
   word-at k h = within-number Big 3 _ (ID_ROW * i + 4 * k) T (within-within _ (idRowBytes row) T (ID_ROW * i) (4 * k) (within-word k h) w)
 
   pub row-read : idRow T i ≡ row
-  unfolding idRow idTaken idUnnamed idGpDisp idBinding idKind idSection idValue idHash
+  unfolding idRow idTaken idUnnamed idGpDisp idBinding idKind idSection idValue
   row-read =
       let z : ID_ROW * i ≡ ID_ROW * i + 4 * 0 = omega arith in
-      let k : number Big 4 T (ID_ROW * i) ≡ kindWord (row .taken) (row .unnamed) (row .«gp_disp») (row .binding) = ap (number Big 4 T) z ∙ word-at 0 (omega arith) in
-      let a = kind-taken (row .taken) (row .unnamed) (row .«gp_disp») (row .binding) (number Big 4 T (ID_ROW * i)) k in
-      let b = kind-unnamed (row .taken) (row .unnamed) (row .«gp_disp») (row .binding) (number Big 4 T (ID_ROW * i)) k in
-      let c = kind-gp (row .taken) (row .unnamed) (row .«gp_disp») (row .binding) (number Big 4 T (ID_ROW * i)) k in
-      let d = kind-binding (row .taken) (row .unnamed) (row .«gp_disp») (row .binding) (number Big 4 T (ID_ROW * i)) k in
-      let s : number Big 4 T (ID_ROW * i + 4) ≡ row .section = word-at 1 (omega arith) in
-      let v : number Big 4 T (ID_ROW * i + 8) ≡ row .value = word-at 2 (omega arith) in
-      let h : number Big 4 T (ID_ROW * i + 12) ≡ row .hash = word-at 3 (omega arith) in
-      λ j. record { taken = a j; unnamed = b j; «gp_disp» = c j; binding = d j; section = s j; value = v j; hash = h j }
+      let k : number Big 4 T (ID_ROW * i) ≡ kindWord (row .taken) (row .unnamed) (row .«gp_disp») (row .binding) (row .section) = ap (number Big 4 T) z ∙ word-at 0 (omega arith) in
+      let a = kind-taken (row .taken) (row .unnamed) (row .«gp_disp») (row .binding) (row .section) (number Big 4 T (ID_ROW * i)) k in
+      let b = kind-unnamed (row .taken) (row .unnamed) (row .«gp_disp») (row .binding) (row .section) (number Big 4 T (ID_ROW * i)) k in
+      let c = kind-gp (row .taken) (row .unnamed) (row .«gp_disp») (row .binding) (row .section) (number Big 4 T (ID_ROW * i)) k in
+      let d = kind-binding (row .taken) (row .unnamed) (row .«gp_disp») (row .binding) (row .section) (number Big 4 T (ID_ROW * i)) k small in
+      let s = kind-section (row .taken) (row .unnamed) (row .«gp_disp») (row .binding) (row .section) (number Big 4 T (ID_ROW * i)) k small in
+      let v : number Big 4 T (ID_ROW * i + 4) ≡ row .value = word-at 1 (omega arith) in
+      λ j. record { taken = a j; unnamed = b j; «gp_disp» = c j; binding = d j; section = s j; value = v j }
 
 -- row i is written
 module _ (T : List ℕ) (i : ℕ) (row : IdRow) (fits : ID_ROW * i + ID_ROW ≤ length T) where
@@ -120,22 +120,17 @@ module _ (T : List ℕ) (i : ℕ) (row : IdRow) (fits : ID_ROW * i + ID_ROW ≤ 
   pub written-long : length after ≡ length T
   written-long = length-spliced T (ID_ROW * i) (idRowBytes row) inside
 
-  pub written-same : idRow after i ≡ row
-  written-same = row-read row i after (within-spliced T (ID_ROW * i) (idRowBytes row) inside)
+  pub written-same : row .binding < 16 → idRow after i ≡ row
+  written-same small = row-read row small i after (within-spliced T (ID_ROW * i) (idRowBytes row) inside)
 
   word-other : (j p : ℕ) → j ≢ i → ID_ROW * j ≤ p → p + 4 ≤ ID_ROW * j + ID_ROW → number Big 4 after p ≡ number Big 4 T p
   word-other j p d l h = number-outside Big 4 p T (ID_ROW * i) (idRowBytes row) inside
       (rw (length-row row) (by-lt j i (λ u. inl (omega arith)) (λ u. inr (omega arith))))
 
   pub written-other : (j : ℕ) → j ≢ i → idRow after j ≡ idRow T j
-  unfolding idRow idTaken idUnnamed idGpDisp idBinding idKind idSection idValue idHash
+  unfolding idRow idTaken idUnnamed idGpDisp idBinding idKind idSection idValue
   written-other j d =
-      rw (
-        word-other j (ID_ROW * j) d (omega arith) (omega arith),
-        word-other j (ID_ROW * j + 4) d (omega arith) (omega arith),
-        word-other j (ID_ROW * j + 8) d (omega arith) (omega arith),
-        word-other j (ID_ROW * j + 12) d (omega arith) (omega arith),
-      )
+      rw (word-other j (ID_ROW * j) d (omega arith) (omega arith), word-other j (ID_ROW * j + 4) d (omega arith) (omega arith))
 
 -- rows filled one by one: the first i are those that f gives
 module _ (f : ℕ → IdRow) where
@@ -145,10 +140,10 @@ module _ (f : ℕ → IdRow) where
   pub filled-none : (T : List ℕ) → Filled T 0
   filled-none T j h = absurd (omega arith)
 
-  pub filled-next : (T : List ℕ) (i : ℕ) → ID_ROW * i + ID_ROW ≤ length T → Filled T i → Filled (spliced T (ID_ROW * i) (idRowBytes (f i))) (i + 1)
-  filled-next T i h w j l = by-lt j i
+  pub filled-next : (T : List ℕ) (i : ℕ) → ID_ROW * i + ID_ROW ≤ length T → f i .binding < 16 → Filled T i → Filled (spliced T (ID_ROW * i) (idRowBytes (f i))) (i + 1)
+  filled-next T i h small w j l = by-lt j i
       (λ u. written-other T i (f i) h j (λ e. absurd (omega arith)) ∙ w j u)
-      (λ u. let e : j ≡ i = omega arith in rw e (written-same T i (f i) h))
+      (λ u. let e : j ≡ i = omega arith in rw e (written-same T i (f i) h small))
 
 -- ---- words
 

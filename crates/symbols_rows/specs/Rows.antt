@@ -1,5 +1,5 @@
--- Of the code, not of document 01: the tables of the symbol merge. T has a row of four words for each id: what it is, its section, its value, and the hash of its working
--- name; L has a word for each position of the list: its id; H has a word for each position: the position that holds its name.
+-- Of the code, not of document 01: the tables of the symbol merge. T has a row of two words for each id: what it is with its section, and its value; L has a word for each
+-- position of the list: its id; H has a word for each position: the position that holds its name.
 use Prim.Native.Nat.{ℕ, _+_, _*_, _/_, _%_, _≤_, _<_}
 use mathlib.Core.Path.{_≡_}
 use mathlib.Core.Bool.{Bool, true, cond, not, _&&_, _||_}
@@ -16,9 +16,13 @@ use Rattle.symbols_merge.specs.Candidates.{Candidates, isUnnamed, isGpDisp}
 use Rattle.symbols_merge.specs.Listed.{listed, holderOf}
 use Rattle.symbols_rows.specs.declared.IdRow.{IdRow}
 
--- what an id is, as one word: whether it is taken, unnamed, `_gp_disp`, and its binding
-unfoldable pub kindWord : Bool → Bool → Bool → ℕ → ℕ
-kindWord taken unnamed gp binding = cond taken 1 0 + cond unnamed 2 0 + cond gp 4 0 + 8 * binding
+-- what an id is, as one word: whether it is taken, unnamed, `_gp_disp`, its binding and its section
+unfoldable pub kindWord : Bool → Bool → Bool → ℕ → ℕ → ℕ
+kindWord taken unnamed gp binding section = cond taken 1 0 + cond unnamed 2 0 + cond gp 4 0 + 8 * binding + 128 * section
+
+-- a binding is four bits of st_info, a section index one half
+abbrev pub Fits : ℕ → ℕ → Type 0
+Fits binding section = (binding < 16) × (section < 65536)
 
 module _ (T : List ℕ) where
   unfoldable pub idKind : ℕ → ℕ
@@ -34,16 +38,13 @@ module _ (T : List ℕ) where
   idGpDisp i = eqb (idKind i / 4 % 2) 1
 
   unfoldable pub idBinding : ℕ → ℕ
-  idBinding i = idKind i / 8
+  idBinding i = idKind i / 8 % 16
 
   unfoldable pub idSection : ℕ → ℕ
-  idSection i = number Big 4 T (ID_ROW * i + 4)
+  idSection i = idKind i / 128
 
   unfoldable pub idValue : ℕ → ℕ
-  idValue i = number Big 4 T (ID_ROW * i + 8)
-
-  unfoldable pub idHash : ℕ → ℕ
-  idHash i = number Big 4 T (ID_ROW * i + 12)
+  idValue i = number Big 4 T (ID_ROW * i + 4)
 
   -- row i
   unfoldable pub idRow : ℕ → IdRow
@@ -54,7 +55,6 @@ module _ (T : List ℕ) where
     binding = idBinding i;
     section = idSection i;
     value = idValue i;
-    hash = idHash i;
   }
 
   -- the candidates that n rows tell of; their names stand elsewhere
@@ -70,7 +70,7 @@ module _ (T : List ℕ) where
 
 -- the bytes of a row
 unfoldable pub idRowBytes : IdRow → List ℕ
-idRowBytes row = flat (encoded Big 4) (kindWord (row .taken) (row .unnamed) (row .«gp_disp») (row .binding) ∷ row .section ∷ row .value ∷ row .hash ∷ [])
+idRowBytes row = flat (encoded Big 4) (kindWord (row .taken) (row .unnamed) (row .«gp_disp») (row .binding) (row .section) ∷ row .value ∷ [])
 
 -- word p of a table of words, and its first m words
 unfoldable pub wordIn : List ℕ → ℕ → ℕ

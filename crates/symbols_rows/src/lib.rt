@@ -9,13 +9,13 @@ ghost use Rattle.base_lists.specs.Ranges.{first, pickList};
 ghost use Rattle.base_lists.specs.Windows.{spliced};
 ghost use Rattle.base_scope.specs.Refusals.{foundBelow};
 ghost use Rattle.base_scope.specs.Limits.{ID_LIMIT, ID_ROW};
-ghost use Rattle.symbols_rows.specs.Rows.{kindWord, idRow, idRowBytes, wordIn, looseIn, elsewhereIn};
+ghost use Rattle.symbols_rows.specs.Rows.{kindWord, Fits, idRow, idRowBytes, wordIn, looseIn, elsewhereIn};
 ghost use Rattle.symbols_rows.specs.Steps.{sectionGroup, inList, idsOf, idsListed, Listing, Position, Held, Positions, Holders, verdictIn};
 use base_answers::Verdict;
 use base_fields::ByteOrder;
 use base_scope::Finding;
 
-// What the merge asks of an id: whether it is taken, has no name, or the name `_gp_disp`; its binding; its section and value in the result; the hash of its name.
+// What the merge asks of an id: whether it is taken, has no name, or the name `_gp_disp`; its binding; its section and value in the result.
 pub struct IdRow {
     pub taken: bool,
     pub unnamed: bool,
@@ -23,7 +23,6 @@ pub struct IdRow {
     pub binding: u32,
     pub section: u32,
     pub value: u32,
-    pub hash: u32,
 }
 
 // A bit of the kind word.
@@ -35,18 +34,19 @@ fn flag(set: bool, bit: u32) -> u32
 
 // What an id is, as one word.
 fn kind_word(row: IdRow) -> u32
-    requires { ⌜ row .binding < 16 ⌝ }
-    ensures { λ r. ⌜ r ≡ kindWord (row .taken) (row .unnamed) (row .«gp_disp») (row .binding) ⌝ }
+    requires { ⌜ Fits (row .binding) (row .section) ⌝ }
+    ensures { λ r. ⌜ r ≡ kindWord (row .taken) (row .unnamed) (row .«gp_disp») (row .binding) (row .section) ⌝ }
 {
-    flag(row.taken, 1) + flag(row.unnamed, 2) + flag(row.gp_disp, 4) + 8 * row.binding
+    let kind = flag(row.taken, 1) + flag(row.unnamed, 2) + flag(row.gp_disp, 4);
+    kind + 8 * row.binding + 128 * row.section
 }
 
 // Writes row i.
 pub fn write_id(rows: &mut [u8], i: usize, row: IdRow)
-    requires { ⌜ (ID_ROW * i + ID_ROW ≤ length (now rows)) × (row .binding < 16) ⌝ }
+    requires { ⌜ (ID_ROW * i + ID_ROW ≤ length (now rows)) × Fits (row .binding) (row .section) ⌝ }
     ensures { λ _. ⌜ now (rows .exit) ≡ spliced (now (rows .entry)) (ID_ROW * i) (idRowBytes row) ⌝ }
 {
-    let words = [kind_word(row), row.section, row.value, row.hash];
+    let words = [kind_word(row), row.value];
     base_fields::write_words(ByteOrder::Big, rows, base_scope::ID_ROW * i, &words);
 }
 
@@ -60,10 +60,9 @@ pub fn id_at(rows: &[u8], i: usize) -> IdRow
         taken: kind % 2 == 1,
         unnamed: kind / 2 % 2 == 1,
         gp_disp: kind / 4 % 2 == 1,
-        binding: kind / 8,
-        section: base_fields::read32(ByteOrder::Big, rows, base_scope::ID_ROW * i + 4),
-        value: base_fields::read32(ByteOrder::Big, rows, base_scope::ID_ROW * i + 8),
-        hash: base_fields::read32(ByteOrder::Big, rows, base_scope::ID_ROW * i + 12),
+        binding: kind / 8 % 16,
+        section: kind / 128,
+        value: base_fields::read32(ByteOrder::Big, rows, base_scope::ID_ROW * i + 4),
     }
 }
 

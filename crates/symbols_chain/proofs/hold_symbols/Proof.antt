@@ -1,13 +1,14 @@
 -- The list is indexed, and its names are held. Assumes nothing.
 use borrow.Author.Needs.{needs}
-use Rattle.symbols_chain.proofs.Chain.{ready-positions, ready-few}
+use Rattle.symbols_holders.proofs.Holders.{list-held}
+use Rattle.symbols_chain.proofs.Chain.{ready-few}
 use Rattle.symbols_chain.proofs.hold_symbols.Statement.{statement}
 use Rattle.symbols_chain.proofs.hold_symbols.Tie as tie
 
 index-list-requires : tie.Need-index-list-requires
 index-list-requires c κs =
     let q = c .before .before .before .before .before .before .before .before .pre in
-    (ready-positions _ _ _ _ _ _ _ _ (q .0), ready-few _ _ _ _ _ _ _ _ (q .0), q .1)
+    (q .0 .read, list-held _ _ _ _ _ _ _ _ (q .0), ready-few _ _ _ _ _ _ _ _ (q .0), q .1)
 
 hold-names-requires : tie.Need-hold-names-requires
 hold-names-requires c κs = search needs

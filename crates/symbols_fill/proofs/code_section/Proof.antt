@@ -11,7 +11,7 @@ cast-result : tie.Need-cast-result
 cast-result c = record { fits = omega (arith, c .section .ensures, c .before .pre .0 (c .before .args .code) (c .before .pre .1) (c .before .pre .2)) }
 
 returns : tie.Need-returns
-returns c = search needs
+returns c = (search needs, omega (arith, c .section .ensures, c .before .pre .0 (c .before .args .code) (c .before .pre .1) (c .before .pre .2)))
 
 pub code-section-spec : {M : Type 1} → statement M
 code-section-spec = tie.close (tie.spec section-requires cast-result returns)

@@ -45,7 +45,7 @@ loop-again c =
     let l = c .before .before .before .before .before .loop in
     let e = c .before .before .before .before .before .before .id-count .ensures in
     let t = c .before .before .before .before .loop-test .taken in
-    (omega (arith, t), far-next (now (a .compiled)) (now (a .assembled)) (now (a .statics)) (now (a .late)) (a .filling) (now (a .rows)) (l .rows) _ (l .id) (l .inv .1) (omega (arith, e, t, b .pre .1, l .inv .1 .long)) (c .before .before .fill-row .ensures))
+    (omega (arith, t), far-next (now (a .compiled)) (now (a .assembled)) (now (a .statics)) (now (a .late)) (a .filling) (now (a .rows)) (l .rows) _ (l .id) (l .inv .1) (omega (arith, e, t, b .pre .1, l .inv .1 .long)) (c .before .before .fill-row .ensures .1) (c .before .before .fill-row .ensures .0))
 
 same-length : tie.Need-same-length Inv-loop μ-loop
 same-length c = c .before .loop .inv .1 .long

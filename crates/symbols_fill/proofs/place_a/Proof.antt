@@ -1,5 +1,5 @@
 -- An index that is a section's goes by its code, any other stays. Assumes nothing.
-use Rattle.symbols_fill.proofs.Places.{place-moved, place-kept}
+use Rattle.symbols_fill.proofs.Places.{place-moved, place-kept, index-lt}
 use Rattle.elf_symbols.proofs.Symbols.{table-at}
 use Rattle.elf_check.proofs.Views.{view-table}
 use Rattle.symbols_taken.proofs.Faults.{target-low}
@@ -51,8 +51,8 @@ returns c =
     let a = c .before .before .before .before .before .before .before .before .before .before .before .before .before .before .before .args in
     let placed = sym (c .before .before .before .before .before .before .before .is-placed .ensures) ∙ c .before .before .before .before .before .before .if1 .taken in (
       place-moved (now (a .assembled)) (now (a .late)) (a .filling) (a .k) _ _ (c .before .before .before .before .before .before .before .before .before .symbol-at .ensures) (c .before .before .before .before .before .before .before .before .binding-of .ensures) _ _ _ _ placed
-          (c .before .before .before .code-of .ensures .0) (c .before .before .target-code .ensures) (c .before .code-section .ensures) (c .late-value .ensures),
-      omega (arith, c .before .before .before .before .before .before .before .before .binding-of .ensures),
+          (c .before .before .before .code-of .ensures .0) (c .before .before .target-code .ensures) (c .before .code-section .ensures .0) (c .late-value .ensures),
+      (omega (arith, c .before .before .before .before .before .before .before .before .binding-of .ensures), c .before .code-section .ensures .1),
     )
 
 returns-2 : tie.Need-returns-2
@@ -60,7 +60,10 @@ returns-2 c =
     let a = c .before .before .before .before .before .before .before .before .before .args in
     let placed = sym (c .before .is-placed .ensures) ∙ c .if1 .left in (
       place-kept (now (a .assembled)) (now (a .late)) (a .filling) (a .k) _ _ (c .before .before .before .symbol-at .ensures) (c .before .before .binding-of .ensures) placed,
-      omega (arith, c .before .before .binding-of .ensures),
+      (
+        omega (arith, c .before .before .binding-of .ensures),
+        index-lt (a .filling .inputs .order) (now (a .assembled)) (a .k) _ (c .before .before .before .symbol-at .ensures) (λ i. omega (arith, c .before .before .before .before .before .before .before .before .shared-slice-known .given i)),
+      ),
     )
 
 pub place-a-spec : {M : Type 1} → statement M

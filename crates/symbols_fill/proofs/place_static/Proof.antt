@@ -23,7 +23,7 @@ cast-t8 c = search needs
 returns : tie.Need-returns
 returns c =
     let a = c .before .before .before .before .before .args in
-    (place-static (now (a .statics)) (a .filling) (a .k) _ _ _ (c .before .before .read .ensures) (c .code-section .ensures) (c .before .static-binding .ensures .0), c .before .static-binding .ensures .1)
+    (place-static (now (a .statics)) (a .filling) (a .k) _ _ _ (c .before .before .read .ensures) (c .code-section .ensures .0) (c .before .static-binding .ensures .0), (c .before .static-binding .ensures .1, c .code-section .ensures .1))
 
 pub place-static-spec : {M : Type 1} → statement M
 place-static-spec =

@@ -17,14 +17,11 @@ is-unnamed-requires c κs = search needs
 is-gp-disp-requires : tie.Need-is-gp-disp-requires
 is-gp-disp-requires c κs = search needs
 
-name-hash-requires : tie.Need-name-hash-requires
-name-hash-requires c κs = search needs
-
 returns : tie.Need-returns
 returns c =
-    let a = c .before .before .before .before .before .before .before .before .before .before .before .before .args in
-    let p = c .before .before .before .taken-place in
-    (row-is (now (a .compiled)) (now (a .assembled)) (now (a .statics)) (now (a .late)) (a .filling) (a .id) _ _ _ _ _ (c .before .before .before .before .is-taken .ensures) (p .ensures .0) (c .before .before .is-unnamed .ensures) (c .before .is-gp-disp .ensures) (c .name-hash .ensures), p .ensures .1)
+    let a = c .before .before .before .before .before .before .before .before .before .before .before .args in
+    let p = c .before .before .taken-place in
+    (row-is (now (a .compiled)) (now (a .assembled)) (now (a .statics)) (now (a .late)) (a .filling) (a .id) _ _ _ _ (c .before .before .before .is-taken .ensures) (p .ensures .0) (c .before .is-unnamed .ensures) (c .is-gp-disp .ensures), p .ensures .1)
 
 pub row-of-spec : {M : Type 1} → statement M
 row-of-spec =
@@ -34,5 +31,4 @@ row-of-spec =
     taken-place-requires
     is-unnamed-requires
     is-gp-disp-requires
-    name-hash-requires
     returns)

@@ -12,7 +12,7 @@ returns : tie.Need-returns
 returns c = (place-taken (c .before .before .before .before .before .before .args .taken) _ _ (c .before .if1 .taken) (c .place-of .ensures .0), c .place-of .ensures .1)
 
 returns-2 : tie.Need-returns-2
-returns-2 c = (place-none (c .before .before .before .before .before .args .taken) _ (c .if1 .left), omega arith)
+returns-2 c = (place-none (c .before .before .before .before .before .args .taken) _ (c .if1 .left), (omega arith, omega arith))
 
 pub taken-place-spec : {M : Type 1} → statement M
 taken-place-spec = tie.close (tie.spec place-of-requires returns returns-2)

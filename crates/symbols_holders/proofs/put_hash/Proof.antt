@@ -1,12 +1,16 @@
--- The word that is written. Assumes nothing.
+-- The word that is written is the hash of the id's name. Assumes nothing.
 use denote.Ref.{now}
 use borrow.Author.Needs.{needs}
+use Rattle.symbols_holders.specs.Ready.{idName}
 use Rattle.symbols_holders.proofs.Tables.{hash-put}
 use Rattle.symbols_holders.proofs.put_hash.Statement.{statement}
 use Rattle.symbols_holders.proofs.put_hash.Tie as tie
 
-row-at-requires : tie.Need-row-at-requires
-row-at-requires c κs = search needs
+word-at-requires : tie.Need-word-at-requires
+word-at-requires c κs = search needs
+
+name-hash-requires : tie.Need-name-hash-requires
+name-hash-requires c κs = search needs
 
 put-hash-requires : tie.Need-put-hash-requires
 put-hash-requires c κs = search needs
@@ -16,8 +20,9 @@ same-length c = search needs
 
 returns : tie.Need-returns
 returns c =
-    let a = c .before .before .before .before .before .before .before .before .args in
-    hash-put (now (a .index)) _ (now (a .rows)) (now (a .list)) (a .p) _ (c .before .before .before .before .row-at .ensures) (c .before .before .put-hash .ensures)
+    let a = c .before .before .before .before .before .before .before .before .before .before .before .args in
+    hash-put (idName (a .order) (now (a .compiled)) (now (a .assembled)) (now (a .statics)) (a .sources)) (now (a .list)) (now (a .index)) _ (a .p) _ _
+    (c .before .before .before .before .before .word-at .ensures .0) (c .before .before .before .before .name-hash .ensures) (c .before .before .put-hash .ensures)
 
 pub put-hash-spec : {M : Type 1} → statement M
-put-hash-spec = tie.close (tie.spec row-at-requires put-hash-requires same-length returns)
+put-hash-spec = tie.close (tie.spec word-at-requires name-hash-requires put-hash-requires same-length returns)

@@ -1,4 +1,4 @@
--- The four words that are written are the bytes of the row. Assumes nothing.
+-- The two words that are written are the bytes of the row. Assumes nothing.
 use Rattle.base_scope.specs.Limits.{ID_ROW}
 use Rattle.symbols_rows.specs.Rows.{idRowBytes}
 use Rattle.base_lists.specs.Records.{flat}
@@ -33,7 +33,7 @@ unfolding idRowBytes
 returns c =
     let a = c .before .before .before .before .before .before .before .args in
     c .before .before .write-words .ensures
-    ∙ ap (λ (k : ℕ). spliced (now (a .rows)) (ID_ROW * a .i) (flat (encoded Big 4) (k ∷ a .row .section ∷ a .row .value ∷ a .row .hash ∷ []))) (c .before .before .before .before .before .kind-word .ensures)
+    ∙ ap (λ (k : ℕ). spliced (now (a .rows)) (ID_ROW * a .i) (flat (encoded Big 4) (k ∷ a .row .value ∷ []))) (c .before .before .before .before .before .kind-word .ensures)
 
 pub write-id-spec : {M : Type 1} → statement M
 write-id-spec =
