@@ -15,6 +15,7 @@ use Rattle.symbols_holders.proofs.Holders.{list-few}
 use Rattle.symbols_fill.specs.declared.Filling.{Filling}
 use Rattle.symbols_fill.specs.Fill.{rowOf, PlacesReady, FilledRows}
 use Rattle.symbols_fill.proofs.Filled.{ids-few}
+use Rattle.symbols_fill.proofs.Origins.{kind-unnamed, kind-gp}
 use Rattle.symbols_chain.specs.Chain.{SymbolsListed}
 
 module _ (C A U late : List ℕ) (f : Filling) (q : PlacesReady C A U late f) (before : List ℕ) (n : ℕ) (T : List ℕ) (r : FilledRows C A U late f before n T) where
@@ -22,7 +23,7 @@ module _ (C A U late : List ℕ) (f : Filling) (q : PlacesReady C A U late f) (b
     rows-named : RowsOf T (idCount (f .sources)) (idName (f .inputs .order) C A U (f .sources))
     unfolding rowOf
     rows-named =
-        rows-of T (idCount (f .sources)) (idName (f .inputs .order) C A U (f .sources)) (rowOf C A U late f) (ids-few C A U late f q) (omega (arith, r .long, long)) (r .rows) (λ i l. refl) (λ i l. refl)
+        rows-of T (idCount (f .sources)) (idName (f .inputs .order) C A U (f .sources)) (rowOf C A U late f) (ids-few C A U late f q) (omega (arith, r .long, long)) (r .rows) (λ i l t. kind-unnamed _ _ t) (λ i l t. kind-gp _ _ t)
 
     -- what it leaves
     pub symbols-listed : (B L : List ℕ) (m : ℕ) → 4 * idCount (f .sources) ≤ length B → Listing (idsListed T n) 0 m B L → SymbolsListed C A U late f T L m

@@ -33,7 +33,7 @@ use Rattle.symbols_fill.specs.declared.SymbolPlace.{SymbolPlace}
 use Rattle.symbols_fill.specs.declared.Filling.{Filling}
 use Rattle.symbols_fill.specs.Fill.{placeByEntry, placeC, placeA, placeStatic, takenPlace, isTaken, idPlace, rowOf, PlacesReady, FillReady, FilledRows}
 use Rattle.symbols_fill.specs.Stage.{FillStage}
-use Rattle.symbols_fill.proofs.Origins.{origin-other}
+use Rattle.symbols_fill.proofs.Origins.{origin-other, kind-unnamed, kind-gp}
 use Rattle.symbols_fill.proofs.Filled.{ids-few}
 use Rattle.symbols_fill.proofs.Origins.{origin-related}
 use Rattle.symbols_fill.proofs.Entries.{finished-place, place-c-is, place-a-is, place-static-is}
@@ -112,7 +112,7 @@ module _ (C A : List ℕ) (P : List Place) (B T late : List ℕ) (f : Filling) (
     pub fill-rows-of : ID_ROW * idCount (f .sources) ≤ length before → RowsOf after (idCount (f .sources)) (idName o C A T (f .sources))
     unfolding rowOf
     fill-rows-of h =
-        rows-of after (idCount (f .sources)) (idName o C A T (f .sources)) (rowOf C A T late f) (ids-few C A T late f places-ready) (omega (arith, r .long, h)) (r .rows) (λ i l. refl) (λ i l. refl)
+        rows-of after (idCount (f .sources)) (idName o C A T (f .sources)) (rowOf C A T late f) (ids-few C A T late f places-ready) (omega (arith, r .long, h)) (r .rows) (λ i l t. kind-unnamed _ _ t) (λ i l t. kind-gp _ _ t)
 
     -- so that the holders of their list can be found
     pub fill-holders : ID_ROW * idCount (f .sources) ≤ length before → (L : List ℕ) (p : ℕ) → ListOf (symbolsIn o C A T (f .sources) after) L p → HoldersReady o C A T (f .sources) after L p

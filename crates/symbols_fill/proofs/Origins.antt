@@ -20,8 +20,9 @@ use Rattle.symbols_names.proofs.Names.{rows-held}
 use Rattle.symbols_rows.specs.declared.IdRow.{IdRow}
 use Rattle.symbols_holders.specs.Ready.{idCount, idName}
 use Rattle.symbols_fill.specs.declared.SymbolPlace.{SymbolPlace}
+use Rattle.symbols_fill.specs.declared.NameKind.{NameKind}
 use Rattle.symbols_fill.specs.declared.Filling.{Filling}
-use Rattle.symbols_fill.specs.Fill.{placeC, placeA, placeStatic, takenPlace, isTaken, idPlace, rowOf, SmallSections, AtSource, AtStatic, PlacesReady}
+use Rattle.symbols_fill.specs.Fill.{placeC, placeA, placeStatic, takenPlace, takenKind, isTaken, idPlace, rowOf, SmallSections, AtSource, AtStatic, PlacesReady}
 use Rattle.symbols_fill.proofs.Places.{small-sections}
 
 -- n symbols of C, m of A
@@ -126,9 +127,24 @@ place-none t p e = rw e
 
 -- ---- rows
 
+-- the name of an id that is taken
+module _ (t : Bool) (name : List ℕ) (taken : t ≡ true) where
+  pub kind-unnamed : takenKind t name .unnamed ≡ eqb (length name) 0
+  unfolding takenKind
+  kind-unnamed = rw taken
+
+  pub kind-gp : takenKind t name .«gp_disp» ≡ same name (text "_gp_disp")
+  unfolding takenKind
+  kind-gp = rw taken
+
+-- that of one that is not
+pub kind-none : (t : Bool) (name : List ℕ) → t ≡ false → _≡_ {A = NameKind} (record { unnamed = false; «gp_disp» = false }) (takenKind t name)
+unfolding takenKind
+kind-none t name e = rw e
+
 module _ (C A T late : List ℕ) (f : Filling) (i : ℕ) where
-  pub row-is : (t u g : Bool) (p : SymbolPlace) → t ≡ isTaken (f .inputs .order) C A i → p ≡ takenPlace t (idPlace C A T late f i)
-      → u ≡ eqb (length (idName (f .inputs .order) C A T (f .sources) i)) 0 → g ≡ same (idName (f .inputs .order) C A T (f .sources) i) (text "_gp_disp")
-      → _≡_ {A = IdRow} (record { taken = t; unnamed = u; «gp_disp» = g; binding = p .binding; section = p .section; value = p .value }) (rowOf C A T late f i)
+  pub row-is : (t : Bool) (k : NameKind) (p : SymbolPlace) → t ≡ isTaken (f .inputs .order) C A i → p ≡ takenPlace t (idPlace C A T late f i)
+      → k ≡ takenKind t (idName (f .inputs .order) C A T (f .sources) i)
+      → _≡_ {A = IdRow} (record { taken = t; unnamed = k .unnamed; «gp_disp» = k .«gp_disp»; binding = p .binding; section = p .section; value = p .value }) (rowOf C A T late f i)
   unfolding rowOf
-  row-is t u g p taken place unnamed gp = rw (place, taken, unnamed, gp)
+  row-is t k p taken place kind = rw (place, kind, taken)

@@ -2,7 +2,7 @@
 -- step, f the rest. proofs/Candidates.antt says that taken ids stand where their entries do.
 use Prim.Native.Nat.{ℕ, _+_, _*_, _≤_, _<_}
 use mathlib.Core.Path.{_≡_}
-use mathlib.Core.Bool.{Bool, true, false, cond}
+use mathlib.Core.Bool.{Bool, true, false, cond, _&&_}
 use mathlib.Core.List.{List}
 use lib.ListN.{length}
 use lib.Dec.{eqb}
@@ -30,6 +30,7 @@ use Rattle.symbols_rows.specs.declared.IdRow.{IdRow}
 use Rattle.symbols_rows.specs.Rows.{idRow}
 use Rattle.symbols_holders.specs.Ready.{idCount, idName}
 use Rattle.symbols_fill.specs.declared.SymbolPlace.{SymbolPlace}
+use Rattle.symbols_fill.specs.declared.NameKind.{NameKind}
 use Rattle.symbols_fill.specs.declared.Filling.{Filling}
 
 -- ---- places
@@ -79,6 +80,10 @@ abbrev pub takenPlace : Bool → SymbolPlace → SymbolPlace
 takenPlace true p = p
 takenPlace false p = record { section = 0; value = 0; binding = 0 }
 
+-- nor of its name: whether it is empty, or `_gp_disp`
+unfoldable pub takenKind : Bool → List ℕ → NameKind
+takenKind taken name = record { unnamed = taken && eqb (length name) 0; «gp_disp» = taken && same name (text "_gp_disp") }
+
 -- ---- rows
 
 -- as the candidates' `taken`
@@ -93,8 +98,8 @@ module _ (C A T late : List ℕ) (f : Filling) where
   unfoldable pub rowOf : ℕ → IdRow
   rowOf i = record {
     taken = isTaken (f .inputs .order) C A i;
-    unnamed = eqb (length (idName (f .inputs .order) C A T (f .sources) i)) 0;
-    «gp_disp» = same (idName (f .inputs .order) C A T (f .sources) i) (text "_gp_disp");
+    unnamed = takenKind (isTaken (f .inputs .order) C A i) (idName (f .inputs .order) C A T (f .sources) i) .unnamed;
+    «gp_disp» = takenKind (isTaken (f .inputs .order) C A i) (idName (f .inputs .order) C A T (f .sources) i) .«gp_disp»;
     binding = takenPlace (isTaken (f .inputs .order) C A i) (idPlace i) .binding;
     section = takenPlace (isTaken (f .inputs .order) C A i) (idPlace i) .section;
     value = takenPlace (isTaken (f .inputs .order) C A i) (idPlace i) .value;

@@ -12,8 +12,9 @@ ghost use Rattle.elf_check.specs.View.{sectionIn, Viewed};
 ghost use Rattle.symbols_taken.specs.Taken.{isTakenC, isTakenA, isPlacedIn};
 ghost use Rattle.symbols_taken.specs.Code.{usedBytes, LateIn};
 ghost use Rattle.symbols_rows.specs.Rows.{Fits, idRowBytes};
-ghost use Rattle.symbols_holders.specs.Ready.{idCount};
-ghost use Rattle.symbols_fill.specs.Fill.{placeC, latePlaceIn, lateValueIn, placeA, placeStatic, idPlace, takenPlace, isTaken, rowOf, SmallSections, AtSource, AtStatic, PlacesReady, FillReady, FilledRows};
+ghost use Rattle.symbols_names.specs.Names.{SourcesRead};
+ghost use Rattle.symbols_holders.specs.Ready.{idCount, idName};
+ghost use Rattle.symbols_fill.specs.Fill.{placeC, latePlaceIn, lateValueIn, placeA, placeStatic, idPlace, takenPlace, takenKind, isTaken, rowOf, SmallSections, AtSource, AtStatic, PlacesReady, FillReady, FilledRows};
 use base_fields::ByteOrder;
 use elf_check::View;
 use late_length::LateStep;
@@ -229,6 +230,37 @@ fn is_taken(compiled: &[u8], assembled: &[u8], used: &[u8], inputs: Inputs, id: 
     true
 }
 
+// What the name of an id is: empty, `_gp_disp`, or any other.
+struct NameKind {
+    unnamed: bool,
+    gp_disp: bool,
+}
+
+// The kind of an id's name. The name of one that is not taken is not read.
+fn taken_kind<'a>(
+    taken: bool,
+    order: ByteOrder,
+    compiled: &'a [u8],
+    assembled: &'a [u8],
+    statics: &[u8],
+    sources: Sources,
+    id: usize,
+) -> NameKind
+    requires { ⌜ SourcesRead order (now compiled) (now assembled) (now statics) sources × (id < idCount sources) ⌝ }
+    ensures { λ r. ⌜ r ≡ takenKind taken (idName order (now (compiled .entry)) (now (assembled .entry)) (now (statics .entry)) sources id) ⌝ }
+{
+    if taken {
+        return NameKind {
+            unnamed: symbols_names::is_unnamed(order, compiled, assembled, statics, sources, id),
+            gp_disp: symbols_names::is_gp_disp(order, compiled, assembled, statics, sources, id),
+        };
+    }
+    NameKind {
+        unnamed: false,
+        gp_disp: false,
+    }
+}
+
 // The row of an id.
 pub fn row_of<'a>(
     compiled: &'a [u8],
@@ -247,10 +279,11 @@ pub fn row_of<'a>(
     let sources = filling.sources;
     let taken = is_taken(compiled, assembled, used, inputs, id);
     let place = taken_place(taken, compiled, assembled, statics, late, filling, id);
+    let kind = taken_kind(taken, order, compiled, assembled, statics, sources, id);
     IdRow {
         taken,
-        unnamed: symbols_names::is_unnamed(order, compiled, assembled, statics, sources, id),
-        gp_disp: symbols_names::is_gp_disp(order, compiled, assembled, statics, sources, id),
+        unnamed: kind.unnamed,
+        gp_disp: kind.gp_disp,
         binding: place.binding,
         section: place.section,
         value: place.value,

@@ -27,7 +27,7 @@ use Rattle.symbols_rows.specs.Rows.{idUnnamed, idRow, candidatesIn, RowsOf, wor
 use Rattle.symbols_rows.specs.Steps.{idsListed, Position}
 use Rattle.symbols_rows.proofs.Rows.{row-fields}
 use Rattle.symbols_rows.proofs.Listing.{listed-names, listed-few}
-use Rattle.symbols_rows.proofs.Tables.{list-long, list-at, list-taken, positions-of}
+use Rattle.symbols_rows.proofs.Tables.{list-long, list-at, list-taken, listed-row, positions-of}
 use Rattle.symbols_holders.specs.Ready.{ListIndexed, ListHeld, PositionHeld, HoldersReady, idCount, idName, symbolsIn, alikeIn, PositionReady}
 
 -- the walk for the holder of position p stands at k
@@ -78,7 +78,7 @@ module _ (o : ByteOrder) (C A U : List ℕ) (s : Sources) (T L I : List ℕ) (it
   id-low k l = list-taken S L m (q .ready .list) k l .0
 
   unnamed-here : idUnnamed T (wordIn L p) ≡ isUnnamed S (listedAt S p)
-  unnamed-here = rw (word-at p (q .low)) (q .ready .rows .unnamed (wordIn L p) (id-low p (q .low)))
+  unnamed-here = rw (word-at p (q .low)) (q .ready .rows .unnamed (wordIn L p) (id-low p (q .low)) (listed-row T (idCount s) name (q .ready .rows) L m (q .ready .list) p (q .low)))
 
   pub position-held : (k : ℕ) → k < m → PositionHeld s L I k
   position-held k l = record {

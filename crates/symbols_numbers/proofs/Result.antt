@@ -20,7 +20,7 @@ use Rattle.symbols_merge.specs.Merged.{RESULT-GROUPS, LOCAL-GROUPS, resultGroup
 use Rattle.symbols_merge.proofs.Names.{alike-parts}
 use Rattle.symbols_merge.proofs.Merged.{Taken, position-lt, listed-position, number-in}
 use Rattle.symbols_merge.proofs.Agree.{Agree, merged-agree, count-agree, locals-agree, number-agree}
-use Rattle.symbols_rows.specs.Rows.{idBinding, candidatesIn, RowsOf, wordIn, wordsIn, ListOf, HoldersOf, resultGroupIn}
+use Rattle.symbols_rows.specs.Rows.{idTaken, idBinding, candidatesIn, RowsOf, wordIn, wordsIn, ListOf, HoldersOf, resultGroupIn}
 use Rattle.symbols_rows.proofs.Tables.{list-long, list-at, list-taken, holder-in, holders-of}
 use Rattle.symbols_numbers.specs.declared.NewSymbol.{NewSymbol}
 use Rattle.symbols_numbers.specs.declared.NewSymbol.the-variants.{Merged, Gone}
@@ -90,9 +90,13 @@ module _ (T L H : List ℕ) (n m : ℕ) (name : ℕ → List ℕ) where
     unfolding isLocal candidatesIn
     local-is i = refl
 
+    row-taken : (p : ℕ) → p < m → idTaken T (wordIn L p) ≡ true
+    unfolding candidatesIn
+    row-taken p u = list-taken s L m l p u .1
+
     pub result-group-is : (p : ℕ) → p < m → resultGroupIn T L p ≡ groupAtPosition s p
     unfolding resultGroupIn groupAtPosition resultGroup
-    result-group-is p u = rw (← list-at s L m l p u, local-is (wordIn L p), ← r .gpDisp (wordIn L p) (id-lt p u))
+    result-group-is p u = rw (← list-at s L m l p u, local-is (wordIn L p), ← r .gpDisp (wordIn L p) (id-lt p u) (row-taken p u))
 
     pub holder-is : (p : ℕ) → p < m → holdsIn H p ≡ isMerged s p
     unfolding holdsIn isMerged isHolder holderOf

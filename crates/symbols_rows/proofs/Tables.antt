@@ -82,14 +82,17 @@ module _ (T : List ℕ) (n r : ℕ) (before after : List ℕ) (room : 4 * n ≤ 
 
 -- rows that were filled are of the names that their bits tell of
 pub rows-of : (T : List ℕ) (n : ℕ) (name : ℕ → List ℕ) (f : ℕ → IdRow) → n ≤ ID_LIMIT → ID_ROW * n ≤ length T → Filled f T n
-    → ((i : ℕ) → i < n → f i .unnamed ≡ eqb (length (name i)) 0) → ((i : ℕ) → i < n → f i .«gp_disp» ≡ same (name i) (text "_gp_disp")) → RowsOf T n name
+    → ((i : ℕ) → i < n → f i .taken ≡ true → f i .unnamed ≡ eqb (length (name i)) 0) → ((i : ℕ) → i < n → f i .taken ≡ true → f i .«gp_disp» ≡ same (name i) (text "_gp_disp"))
+    → RowsOf T n name
 unfolding isUnnamed isGpDisp candidatesIn
-rows-of T n name f few long filled unnamed gp = record {
-  few = few;
-  long = long;
-  unnamed = λ i h. row-fields T i (f i) (filled i h) .unnamed ∙ unnamed i h;
-  gpDisp = λ i h. row-fields T i (f i) (filled i h) .gpDisp ∙ gp i h;
-}
+rows-of T n name f few long filled unnamed gp =
+    let own : (i : ℕ) → i < n → idTaken T i ≡ true → f i .taken ≡ true = λ i h t. sym (row-fields T i (f i) (filled i h) .taken) ∙ t in
+    record {
+      few = few;
+      long = long;
+      unnamed = λ i h t. row-fields T i (f i) (filled i h) .unnamed ∙ unnamed i h (own i h t);
+      gpDisp = λ i h t. row-fields T i (f i) (filled i h) .gpDisp ∙ gp i h (own i h t);
+    }
 
 -- rows filled from candidates agree with them
 pub filled-agree : (T : List ℕ) (f : ℕ → IdRow) (t : Candidates) → Filled f T (t .many)
@@ -130,6 +133,10 @@ module _ (T : List ℕ) (n : ℕ) (name : ℕ → List ℕ) (R : RowsOf T n name
     unfolding candidatesIn
     id-lt p h = list-taken s L m l p h .0
 
+    pub listed-row : (p : ℕ) → p < m → idTaken T (wordIn L p) ≡ true
+    unfolding candidatesIn
+    listed-row p h = list-taken s L m l p h .1
+
     pub positions-of : Positions T L m
     positions-of p h = record { inside = omega (arith, l .long); row = omega (arith, id-lt p h, R .long) }
 
@@ -141,7 +148,7 @@ module _ (T : List ℕ) (n : ℕ) (name : ℕ → List ℕ) (R : RowsOf T n name
     pub loose-is : (p : ℕ) → p < m → looseIn T L p ≡ isLoose s p
     unfolding looseIn isLoose
     loose-is p h =
-        let u : idUnnamed T (listedAt s p) ≡ isUnnamed s (listedAt s p) = R .unnamed (listedAt s p) (rw (← list-at s L m l p h) (id-lt p h)) in
+        let u : idUnnamed T (listedAt s p) ≡ isUnnamed s (listedAt s p) = rw (← list-at s L m l p h) (R .unnamed (wordIn L p) (id-lt p h) (listed-row p h)) in
         rw (list-at s L m l p h, local-in T n name (listedAt s p), undefined-in T n name (listedAt s p), u)
 
     pub loose-found : foundBelow m (first (looseIn T L) 0 m) ≡ foundBelow (length (listed s)) (first (isLoose s) 0 (length (listed s)))

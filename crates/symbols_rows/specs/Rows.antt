@@ -61,12 +61,12 @@ module _ (T : List ℕ) where
   unfoldable pub candidatesIn : ℕ → (ℕ → List ℕ) → Candidates
   candidatesIn n name = record { many = n; taken = idTaken; name = name; section = idSection; value = idValue; binding = idBinding }
 
-  -- n rows in hand, of these names
+  -- n rows in hand, of these names; the row of an id that is not taken says nothing of its name
   pub record RowsOf (n : ℕ) (name : ℕ → List ℕ) : Type 0 where
     pub few : n ≤ ID_LIMIT
     pub long : ID_ROW * n ≤ length T
-    pub unnamed : (i : ℕ) → i < n → idUnnamed i ≡ isUnnamed (candidatesIn n name) i
-    pub gpDisp : (i : ℕ) → i < n → idGpDisp i ≡ isGpDisp (candidatesIn n name) i
+    pub unnamed : (i : ℕ) → i < n → idTaken i ≡ true → idUnnamed i ≡ isUnnamed (candidatesIn n name) i
+    pub gpDisp : (i : ℕ) → i < n → idTaken i ≡ true → idGpDisp i ≡ isGpDisp (candidatesIn n name) i
 
 -- the bytes of a row
 unfoldable pub idRowBytes : IdRow → List ℕ

@@ -11,17 +11,14 @@ is-taken-requires c κs = search needs
 taken-place-requires : tie.Need-taken-place-requires
 taken-place-requires c κs = search needs
 
-is-unnamed-requires : tie.Need-is-unnamed-requires
-is-unnamed-requires c κs = search needs
-
-is-gp-disp-requires : tie.Need-is-gp-disp-requires
-is-gp-disp-requires c κs = search needs
+taken-kind-requires : tie.Need-taken-kind-requires
+taken-kind-requires c κs = search needs
 
 returns : tie.Need-returns
 returns c =
-    let a = c .before .before .before .before .before .before .before .before .before .before .before .args in
-    let p = c .before .before .taken-place in
-    (row-is (now (a .compiled)) (now (a .assembled)) (now (a .statics)) (now (a .late)) (a .filling) (a .id) _ _ _ _ (c .before .before .before .is-taken .ensures) (p .ensures .0) (c .before .is-unnamed .ensures) (c .is-gp-disp .ensures), p .ensures .1)
+    let a = c .before .before .before .before .before .before .before .before .before .before .args in
+    let p = c .before .taken-place in
+    (row-is (now (a .compiled)) (now (a .assembled)) (now (a .statics)) (now (a .late)) (a .filling) (a .id) _ _ _ (c .before .before .is-taken .ensures) (p .ensures .0) (c .taken-kind .ensures), p .ensures .1)
 
 pub row-of-spec : {M : Type 1} → statement M
 row-of-spec =
@@ -29,6 +26,5 @@ row-of-spec =
     (tie.spec
     is-taken-requires
     taken-place-requires
-    is-unnamed-requires
-    is-gp-disp-requires
+    taken-kind-requires
     returns)
