@@ -33,16 +33,7 @@ pub fn hold_symbols<'a>(
     requires { ⌜ HoldersReady order (now compiled) (now assembled) (now statics) sources (now rows) (now list) m × Room ID_LIMIT (now index) × (4 * m ≤ length (now holders)) ⌝ }
     ensures { λ _. ⌜ HoldersOf (symbolsIn order (now (compiled .entry)) (now (assembled .entry)) (now (statics .entry)) sources (now (rows .entry))) (now (holders .exit)) m ⌝ }
 {
-    symbols_holders::index_list(
-        order,
-        compiled,
-        assembled,
-        statics,
-        sources,
-        list,
-        m,
-        index,
-    );
+    symbols_holders::index_list(order, compiled, assembled, statics, sources, list, m, index);
     symbols_holders::hold_names(
         order,
         compiled,

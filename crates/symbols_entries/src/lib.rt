@@ -216,7 +216,7 @@ pub fn entry_of_id<'a>(
     ensures { λ r. ⌜ r ≡ finished (nameOf order (now (compiled .entry)) (now (assembled .entry)) (staticsIn (now (statics .entry)) (sources .statics)) id)
         (originIn order (now (compiled .entry)) (now (assembled .entry)) (now (statics .entry)) (now (marks .entry)) sources mode section value id) ⌝ }
 {
-    let gp_disp = symbols_names::is_gp_disp(order, compiled, assembled, statics, sources, id);
+    let kind = symbols_names::name_kind(order, compiled, assembled, statics, sources, id);
     let e = origin_entry(
         order,
         compiled,
@@ -229,5 +229,5 @@ pub fn entry_of_id<'a>(
         value,
         id,
     );
-    finish(gp_disp, e)
+    finish(kind.gp_disp, e)
 }

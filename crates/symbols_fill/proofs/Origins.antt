@@ -19,8 +19,9 @@ use Rattle.symbols_ids.specs.Ids.{firstA, firstStatic, byOrigin}
 use Rattle.symbols_names.proofs.Names.{rows-held}
 use Rattle.symbols_rows.specs.declared.IdRow.{IdRow}
 use Rattle.symbols_holders.specs.Ready.{idCount, idName}
+use Rattle.symbols_names.specs.declared.NameKind.{NameKind}
+use Rattle.symbols_names.specs.Names.{kindOf}
 use Rattle.symbols_fill.specs.declared.SymbolPlace.{SymbolPlace}
-use Rattle.symbols_fill.specs.declared.NameKind.{NameKind}
 use Rattle.symbols_fill.specs.declared.Filling.{Filling}
 use Rattle.symbols_fill.specs.Fill.{placeC, placeA, placeStatic, takenPlace, takenKind, isTaken, idPlace, rowOf, SmallSections, AtSource, AtStatic, PlacesReady}
 use Rattle.symbols_fill.proofs.Places.{small-sections}
@@ -130,12 +131,16 @@ place-none t p e = rw e
 -- the name of an id that is taken
 module _ (t : Bool) (name : List ℕ) (taken : t ≡ true) where
   pub kind-unnamed : takenKind t name .unnamed ≡ eqb (length name) 0
-  unfolding takenKind
+  unfolding takenKind kindOf
   kind-unnamed = rw taken
 
   pub kind-gp : takenKind t name .«gp_disp» ≡ same name (text "_gp_disp")
-  unfolding takenKind
+  unfolding takenKind kindOf
   kind-gp = rw taken
+
+  pub kind-some : kindOf name ≡ takenKind t name
+  unfolding takenKind
+  kind-some = rw taken
 
 -- that of one that is not
 pub kind-none : (t : Bool) (name : List ℕ) → t ≡ false → _≡_ {A = NameKind} (record { unnamed = false; «gp_disp» = false }) (takenKind t name)

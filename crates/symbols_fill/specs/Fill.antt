@@ -6,11 +6,9 @@ use mathlib.Core.Bool.{Bool, true, false, cond, _&&_}
 use mathlib.Core.List.{List}
 use lib.ListN.{length}
 use lib.Dec.{eqb}
-use Rattle.base_lists.specs.Strings.{same}
 use Rattle.base_lists.specs.Windows.{Within}
 use Rattle.base_fields.specs.declared.ByteOrder.{ByteOrder}
 use Rattle.base_packed.specs.Packed.{bindingOf}
-use Rattle.base_scope.specs.Text.{text}
 use Rattle.base_scope.specs.Codes.{LATE-RODATA, CODES, targetCode}
 use Rattle.base_scope.specs.Limits.{SECTION_LIMIT, STATIC_LIMIT, STATIC_ROW}
 use Rattle.elf_records.specs.declared.symbol.SymbolEntry.{SymbolEntry}
@@ -25,12 +23,12 @@ use Rattle.statics_table.specs.Table.{staticIn}
 use Rattle.symbols_taken.specs.Taken.{isTakenC, isTakenA, isPlacedIn}
 use Rattle.symbols_taken.specs.Code.{codeIn, usedBytes, LateIn}
 use Rattle.symbols_ids.specs.Ids.{byOrigin}
-use Rattle.symbols_names.specs.Names.{SourcesRead}
+use Rattle.symbols_names.specs.declared.NameKind.{NameKind}
+use Rattle.symbols_names.specs.Names.{kindOf, SourcesRead}
 use Rattle.symbols_rows.specs.declared.IdRow.{IdRow}
 use Rattle.symbols_rows.specs.Rows.{idRow}
 use Rattle.symbols_holders.specs.Ready.{idCount, idName}
 use Rattle.symbols_fill.specs.declared.SymbolPlace.{SymbolPlace}
-use Rattle.symbols_fill.specs.declared.NameKind.{NameKind}
 use Rattle.symbols_fill.specs.declared.Filling.{Filling}
 
 -- ---- places
@@ -82,7 +80,7 @@ takenPlace false p = record { section = 0; value = 0; binding = 0 }
 
 -- nor of its name: whether it is empty, or `_gp_disp`
 unfoldable pub takenKind : Bool → List ℕ → NameKind
-takenKind taken name = record { unnamed = taken && eqb (length name) 0; «gp_disp» = taken && same name (text "_gp_disp") }
+takenKind taken name = record { unnamed = taken && kindOf name .unnamed; «gp_disp» = taken && kindOf name .«gp_disp» }
 
 -- ---- rows
 

@@ -21,6 +21,7 @@ use late_length::LateStep;
 use late_lookups::LatePlace;
 use merge_inputs::Inputs;
 use statics_table::Static;
+use symbols_names::NameKind;
 use symbols_names::Sources;
 use symbols_rows::IdRow;
 
@@ -230,12 +231,6 @@ fn is_taken(compiled: &[u8], assembled: &[u8], used: &[u8], inputs: Inputs, id: 
     true
 }
 
-// What the name of an id is: empty, `_gp_disp`, or any other.
-struct NameKind {
-    unnamed: bool,
-    gp_disp: bool,
-}
-
 // The kind of an id's name. The name of one that is not taken is not read.
 fn taken_kind<'a>(
     taken: bool,
@@ -250,10 +245,7 @@ fn taken_kind<'a>(
     ensures { λ r. ⌜ r ≡ takenKind taken (idName order (now (compiled .entry)) (now (assembled .entry)) (now (statics .entry)) sources id) ⌝ }
 {
     if taken {
-        return NameKind {
-            unnamed: symbols_names::is_unnamed(order, compiled, assembled, statics, sources, id),
-            gp_disp: symbols_names::is_gp_disp(order, compiled, assembled, statics, sources, id),
-        };
+        return symbols_names::name_kind(order, compiled, assembled, statics, sources, id);
     }
     NameKind {
         unnamed: false,

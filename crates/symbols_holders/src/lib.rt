@@ -120,16 +120,7 @@ fn put_hashes<'a>(
 {
     let mut k: usize = 0;
     while k < m {
-        put_hash(
-            order,
-            compiled,
-            assembled,
-            statics,
-            sources,
-            list,
-            k,
-            index,
-        );
+        put_hash(order, compiled, assembled, statics, sources, list, k, index);
         k += 1;
     }
 }
@@ -148,16 +139,7 @@ pub fn index_list<'a>(
     requires { ⌜ SourcesRead order (now compiled) (now assembled) (now statics) sources × ListHeld sources (now list) m × (m ≤ ID_LIMIT) × Room ID_LIMIT (now index) ⌝ }
     ensures { λ _. ⌜ ListIndexed (idName order (now (compiled .entry)) (now (assembled .entry)) (now (statics .entry)) sources) (now (list .entry)) (now (index .exit)) m ⌝ }
 {
-    put_hashes(
-        order,
-        compiled,
-        assembled,
-        statics,
-        sources,
-        list,
-        m,
-        index,
-    );
+    put_hashes(order, compiled, assembled, statics, sources, list, m, index);
     base_index::build(index, base_scope::ID_LIMIT, m);
 }
 

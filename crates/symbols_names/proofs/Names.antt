@@ -1,8 +1,8 @@
 -- Laws of working names by their parts: an id below the first static is a symbol's, and its name has no count; what is in hand says which. Assumes nothing.
 use Prim.Native.Nat.{ℕ, _+_, _-_, _≤_, _<_}
 use mathlib.Core.Path.{_≡_, refl, sym, ap, _∙_}
-use mathlib.Core.Bool.{false}
-use mathlib.Core.List.{List, _++_}
+use mathlib.Core.Bool.{Bool, false}
+use mathlib.Core.List.{List, [], _++_}
 use native.Mathlib.Omega.{arith}
 use lib.ListN.{length}
 use lib.Dec.{ltb}
@@ -24,8 +24,9 @@ use Rattle.statics_table.proofs.Table.{length-statics, statics-at}
 use Rattle.statics_entry.specs.Entry.{nth}
 use Rattle.symbols_ids.specs.Ids.{firstA, firstStatic, byOrigin, nameOf}
 use Rattle.symbols_names.specs.declared.Sources.{Sources}
-use Rattle.symbols_names.specs.Names.{storedOf, nameCount, firstIn, nameCountIn, RowsHeld, SourcesRead}
-use Rattle.symbols_names.proofs.Tails.{joined-none, gp-counted}
+use Rattle.symbols_names.specs.declared.NameKind.{NameKind}
+use Rattle.symbols_names.specs.Names.{storedOf, kindOf, nameCount, firstIn, nameCountIn, RowsHeld, SourcesRead}
+use Rattle.symbols_names.proofs.Tails.{joined-none, kind-counted, kind-stored}
 
 module _ (o : ByteOrder) (C A : List ℕ) (S : List Static) (i : ℕ) where
   -- a working name is its stored name and the tail of its count
@@ -138,6 +139,11 @@ module _ (o : ByteOrder) (C A T : List ℕ) (s : Sources) (r : SourcesRead o C A
           → a ++ countTail n ≡ nameOf o C A (staticsIn T (s .statics)) i
       name-joined a n e is = ap (λ (x : List ℕ). x ++ countTail n) e ∙ name-counted n is
 
-      -- a name with a count is not `_gp_disp`
-      pub gp-not : (n : ℕ) → n ≡ nameCountIn T s i → (n ≡ 0 → ⊥) → false ≡ same (nameOf o C A (staticsIn T (s .statics)) i) (text "_gp_disp")
-      gp-not n is d = gp-counted _ (storedOf o C A (staticsIn T (s .statics)) i) n (name-counted n is) d
+      -- the kind of a name by its parts in hand
+      pub kind-count : (n : ℕ) → n ≡ nameCountIn T s i → (n ≡ 0 → ⊥)
+          → _≡_ {A = NameKind} (record { unnamed = false; «gp_disp» = false }) (kindOf (nameOf o C A (staticsIn T (s .statics)) i))
+      kind-count n is d = kind-counted _ (storedOf o C A (staticsIn T (s .statics)) i) n (name-counted n is) d
+
+      pub kind-plain : (a : List ℕ) (n : ℕ) (u g : Bool) → a ≡ storedOf o C A (staticsIn T (s .statics)) i → n ≡ nameCountIn T s i → n ≡ 0 → u ≡ same a [] → g ≡ same a (text "_gp_disp")
+          → _≡_ {A = NameKind} (record { unnamed = u; «gp_disp» = g }) (kindOf (nameOf o C A (staticsIn T (s .statics)) i))
+      kind-plain a n u g e is z empty gp = kind-stored _ a n (name-joined a n e is) u g z empty gp

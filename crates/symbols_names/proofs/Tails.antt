@@ -7,7 +7,7 @@ use native.Mathlib.Omega.{arith}
 use lib.ListN.{length, take, drop, getD, length-append, List·getD-append}
 use lib.Seq.{getD-at, getD-append-add, take-at}
 use lib.Dec.{eqb}
-use borrow.Author.Tests.{ne-eqb, lt-ltb, le-ltb, eqb-true, eqb-false}
+use borrow.Author.Tests.{eq-eqb, ne-eqb, lt-ltb, le-ltb, eqb-true, eqb-false}
 use Rattle.base_lists.specs.Strings.{same}
 use Rattle.base_lists.proofs.Ranges.{by-test, by-lt}
 use Rattle.base_lists.proofs.Strings.{same-true, same-false, same-eq, same-ne, same-next, same-not}
@@ -15,7 +15,8 @@ use Rattle.base_scope.specs.Limits.{STATIC_LIMIT}
 use Rattle.base_scope.specs.Text.{text}
 use Rattle.base_text.specs.Decimals.{digitsText, decimalText}
 use Rattle.statics_table.specs.Statics.{countTail}
-use Rattle.symbols_names.specs.Names.{withoutLast}
+use Rattle.symbols_names.specs.declared.NameKind.{NameKind}
+use Rattle.symbols_names.specs.Names.{kindOf, withoutLast}
 
 -- ---- digits
 
@@ -183,3 +184,18 @@ module _ (w a : List ℕ) (n : ℕ) (is : a ++ countTail n ≡ w) where
       (λ f.
       let l : length (countTail n) ≡ length (58 ∷ digitsText 9 n) = ap length (tail-some n (eqb-false n 0 f)) in
       rw f (sym (ne-eqb (length w) 0 (λ z. omega (arith, l, z, length-append a (countTail n), ap length is)))))
+
+  -- so its parts tell its kind
+  pub kind-counted : (n ≡ 0 → ⊥) → _≡_ {A = NameKind} (record { unnamed = false; «gp_disp» = false }) (kindOf w)
+  unfolding kindOf
+  kind-counted d =
+      let u : false ≡ eqb (length w) 0 = unnamed-parts false (same a []) refl (rw (ne-eqb n 0 d)) in
+      let g : false ≡ same w (text "_gp_disp") = gp-counted d in
+      λ k. record { unnamed = u k; «gp_disp» = g k }
+
+  pub kind-stored : (u g : Bool) → n ≡ 0 → u ≡ same a [] → g ≡ same a (text "_gp_disp") → _≡_ {A = NameKind} (record { unnamed = u; «gp_disp» = g }) (kindOf w)
+  unfolding kindOf
+  kind-stored u g e empty gp =
+      let x : u ≡ eqb (length w) 0 = unnamed-parts u u empty (rw (eq-eqb n 0 e)) in
+      let y : g ≡ same w (text "_gp_disp") = gp-stored g e gp in
+      λ k. record { unnamed = x k; «gp_disp» = y k }

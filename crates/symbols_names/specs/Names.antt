@@ -3,8 +3,10 @@ use Prim.Native.Nat.{ℕ, zero, suc, _+_, _-_, _*_, _/_, _≤_}
 use mathlib.Core.Bool.{cond}
 use mathlib.Core.List.{List}
 use lib.ListN.{length}
-use lib.Dec.{ltb}
+use lib.Dec.{eqb, ltb}
+use Rattle.base_lists.specs.Strings.{same}
 use Rattle.base_fields.specs.declared.ByteOrder.{ByteOrder}
+use Rattle.base_scope.specs.Text.{text}
 use Rattle.base_scope.specs.Limits.{SYMBOL_LIMIT, STATIC_LIMIT, STATIC_ROW}
 use Rattle.elf_symbols.specs.Symbols.{symbolName, Table}
 use Rattle.statics_table.specs.declared.Static.{Static}
@@ -13,6 +15,7 @@ use Rattle.statics_table.specs.Table.{staticIn, CountedRows}
 use Rattle.statics_entry.specs.Entry.{nth}
 use Rattle.symbols_ids.specs.Ids.{byOrigin}
 use Rattle.symbols_names.specs.declared.Sources.{Sources}
+use Rattle.symbols_names.specs.declared.NameKind.{NameKind}
 
 -- the parts of `nameOf`: what is stored, and the count behind it, 0 where there is none (proofs/Names.antt, `name-parts`)
 module _ (o : ByteOrder) (C A : List ℕ) (S : List Static) where
@@ -21,6 +24,10 @@ module _ (o : ByteOrder) (C A : List ℕ) (S : List Static) where
 
   unfoldable pub nameCount : ℕ → ℕ
   nameCount i = byOrigin o C A (λ k. 0) (λ k. 0) (λ k. nth S k .number) i
+
+-- whether a name is empty, or `_gp_disp`
+unfoldable pub kindOf : List ℕ → NameKind
+kindOf name = record { unnamed = eqb (length name) 0; «gp_disp» = same name (text "_gp_disp") }
 
 -- the id of the first static
 abbrev pub firstIn : Sources → ℕ

@@ -6,14 +6,13 @@ ghost use mathlib.Core.List.{_++_};
 ghost use Prim.Native.Nat.{_+_, _*_, _%_, _≤_, _<_};
 ghost use lib.ListN.{length, getD};
 ghost use lib.Dec.{eqb};
-ghost use Rattle.base_lists.specs.Strings.{same};
+ghost use Rattle.base_lists.specs.Strings.{same, nameAt};
 ghost use Rattle.base_scope.specs.Limits.{SYMBOL_LIMIT, STATIC_LIMIT};
-ghost use Rattle.base_scope.specs.Text.{text};
 ghost use Rattle.elf_symbols.specs.Symbols.{symbolCount, symbol, symbolName, Table};
 ghost use Rattle.statics_table.specs.Statics.{countTail};
 ghost use Rattle.statics_table.specs.Table.{staticsIn};
 ghost use Rattle.symbols_ids.specs.Ids.{nameOf};
-ghost use Rattle.symbols_names.specs.Names.{firstIn, storedOf, nameCountIn, withoutLast, RowsHeld, SourcesRead};
+ghost use Rattle.symbols_names.specs.Names.{firstIn, storedOf, kindOf, nameCountIn, withoutLast, RowsHeld, SourcesRead};
 use base_fields::ByteOrder;
 use base_names::Owner;
 use elf_symbols::SymbolTable;
@@ -91,39 +90,47 @@ pub fn stored_name<'a>(
     base_names::name_at(compiled, s.start as usize)
 }
 
-// Whether symbol k of an object is named `s`. The name is read no further than its first byte that differs.
-fn is_symbol_named(order: ByteOrder, file: &[u8], table: SymbolTable, k: usize, s: &[u8]) -> bool
-    requires { ⌜ Table order (now file) table × (k < symbolCount order (now file)) ⌝ }
-    ensures { λ r. ⌜ r ≡ same (symbolName order (now (file .entry)) k) (now (s .entry)) ⌝ }
+// A table from the start of a name on: its end is not searched, since names may be long, and each id is asked.
+fn rest_at<'a>(t: &'a [u8], at: usize) -> &'a [u8]
+    ensures { λ r. ⌜ nameAt (now r) 0 ≡ nameAt (now (t .entry)) at ⌝ }
 {
-    let strings = elf_symbols::strings_of(file, table);
-    let at = name_start(order, file, table, k);
-    base_names::name_is(strings, at, s)
+    if at > t.len() {
+        return &t[0..0];
+    }
+    &t[at..]
 }
 
-// Whether the stored name of an id is `s`, read no further than its first byte that differs: names may be long, and each id is asked.
-fn is_stored(
+// An object's strings from the name of symbol k on.
+fn symbol_rest<'a>(order: ByteOrder, file: &'a [u8], table: SymbolTable, k: usize) -> &'a [u8]
+    requires { ⌜ Table order (now file) table × (k < symbolCount order (now file)) ⌝ }
+    ensures { λ r. ⌜ nameAt (now r) 0 ≡ symbolName order (now (file .entry)) k ⌝ }
+{
+    let strings = elf_symbols::strings_of(file, table);
+    rest_at(strings, name_start(order, file, table, k))
+}
+
+// Where the stored name of an id stands, from it on.
+fn stored_rest<'a>(
     order: ByteOrder,
-    compiled: &[u8],
-    assembled: &[u8],
+    compiled: &'a [u8],
+    assembled: &'a [u8],
     statics: &[u8],
     sources: Sources,
     id: usize,
-    s: &[u8],
-) -> bool
+) -> &'a [u8]
     requires { ⌜ SourcesRead order (now compiled) (now assembled) (now statics) sources × (id < firstIn sources + sources .statics) ⌝ }
-    ensures { λ r. ⌜ r ≡ same (storedOf order (now (compiled .entry)) (now (assembled .entry)) (staticsIn (now (statics .entry)) (sources .statics)) id) (now (s .entry)) ⌝ }
+    ensures { λ r. ⌜ nameAt (now r) 0 ≡ storedOf order (now (compiled .entry)) (now (assembled .entry)) (staticsIn (now (statics .entry)) (sources .statics)) id ⌝ }
 {
     let own = sources.compiled;
     if id < own.count {
-        return is_symbol_named(order, compiled, own, id, s);
+        return symbol_rest(order, compiled, own, id);
     }
     let first = first_static(sources);
     if id < first {
-        return is_symbol_named(order, assembled, sources.assembled, id - own.count, s);
+        return symbol_rest(order, assembled, sources.assembled, id - own.count);
     }
     let row = Static::read(statics, id - first);
-    base_names::name_is(compiled, row.start as usize, s)
+    rest_at(compiled, row.start as usize)
 }
 
 // The count behind the stored name of an id; 0 where there is none.
@@ -216,48 +223,35 @@ fn is_joined_same(a: &[u8], m: u32, b: &[u8], n: u32) -> bool
     true
 }
 
-// Whether an id has no name.
-pub fn is_unnamed<'a>(
-    order: ByteOrder,
-    compiled: &'a [u8],
-    assembled: &'a [u8],
-    statics: &[u8],
-    sources: Sources,
-    id: usize,
-) -> bool
-    requires { ⌜ SourcesRead order (now compiled) (now assembled) (now statics) sources × (id < firstIn sources + sources .statics) ⌝ }
-    ensures { λ r. ⌜ r ≡ eqb (length (nameOf order (now (compiled .entry)) (now (assembled .entry)) (staticsIn (now (statics .entry)) (sources .statics)) id)) 0 ⌝ }
-{
-    let count = name_count(statics, sources, id);
-    let empty = is_stored(order, compiled, assembled, statics, sources, id, b"");
-    base_scope::both(count == 0, empty)
+// What a working name is: empty, `_gp_disp`, or any other.
+pub struct NameKind {
+    pub unnamed: bool,
+    pub gp_disp: bool,
 }
 
-// Whether the working name of an id is `_gp_disp`; one with a count has a colon.
-pub fn is_gp_disp<'a>(
+// The kind of the working name of an id; one with a count has a colon.
+pub fn name_kind<'a>(
     order: ByteOrder,
     compiled: &'a [u8],
     assembled: &'a [u8],
     statics: &[u8],
     sources: Sources,
     id: usize,
-) -> bool
+) -> NameKind
     requires { ⌜ SourcesRead order (now compiled) (now assembled) (now statics) sources × (id < firstIn sources + sources .statics) ⌝ }
-    ensures { λ r. ⌜ r ≡ same (nameOf order (now (compiled .entry)) (now (assembled .entry)) (staticsIn (now (statics .entry)) (sources .statics)) id) (text "_gp_disp") ⌝ }
+    ensures { λ r. ⌜ r ≡ kindOf (nameOf order (now (compiled .entry)) (now (assembled .entry)) (staticsIn (now (statics .entry)) (sources .statics)) id) ⌝ }
 {
     let count = name_count(statics, sources, id);
     if count != 0 {
-        return false;
+        return NameKind {
+            unnamed: false,
+            gp_disp: false,
+        };
     }
-    is_stored(
-        order,
-        compiled,
-        assembled,
-        statics,
-        sources,
-        id,
-        b"_gp_disp",
-    )
+    let rest = stored_rest(order, compiled, assembled, statics, sources, id);
+    let unnamed = base_names::name_is(rest, 0, b"");
+    let gp_disp = base_names::name_is(rest, 0, b"_gp_disp");
+    NameKind { unnamed, gp_disp }
 }
 
 // Whether two ids have one working name. Behind equal counts the stored names decide.

@@ -17,8 +17,7 @@ cast-t7 c = search needs
 
 returns : tie.Need-returns
 returns c =
-    let a = c .before .before .before .args in
-    (
+    let a = c .before .before .before .args in (
       place-own (a .order) (now (a .compiled)) (a .k) _ _ (c .before .symbol-at .ensures) (c .binding-of .ensures),
       (omega (arith, c .binding-of .ensures), index-lt (a .order) (now (a .compiled)) (a .k) _ (c .before .symbol-at .ensures) (λ i. omega (arith, c .before .before .shared-slice-known .given i))),
     )
