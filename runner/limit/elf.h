@@ -103,50 +103,59 @@ static inline uint64_t word64(const uint8_t *at) {
     return word;
 }
 
-/* The hash of a name of `length` bytes, of which at least the first HASHED stand at `name`. */
-static inline uint32_t name_hash(const uint8_t *name, size_t length) {
+static inline uint64_t bytes_hash(const uint8_t *bytes, size_t length) {
     size_t n = length < HASHED ? length : HASHED;
-    uint64_t hash = length;
+    uint64_t hash = length, word = 0;
     if (n >= 8) {
-        for (size_t i = 0; i + 8 < n; i += 8) hash = mixed(hash, word64(name + i));
-        hash = mixed(hash, word64(name + n - 8));
-    } else {
-        uint64_t word = 0;
-        for (size_t i = 0; i < n; i++) word = word << 8 | name[i];
-        hash = mixed(hash, word);
+        for (size_t i = 0; i + 8 < n; i += 8) hash = mixed(hash, word64(bytes + i));
+        return mixed(hash, word64(bytes + n - 8));
     }
-    uint32_t bits = (length >= 7 && memcmp(name, "_asmpp_", 7) == 0 ? IS_LABEL : 0)
-        | (length == 0 ? IS_EMPTY : 0)
-        | (length == 8 && memcmp(name, "_gp_disp", 8) == 0 ? IS_GP_DISP : 0);
-    return (uint32_t)(hash * 0x9e3779b97f4a7c15 >> 32 & ~(uint64_t)NAME_BITS) | bits;
+    for (size_t i = 0; i < n; i++) word = word << 8 | bytes[i];
+    return mixed(hash, word);
 }
 
-/* The hash of a name in two parts. */
-static inline uint32_t joined_hash(const uint8_t *first, size_t n, const uint8_t *rest, size_t m) {
-    uint8_t name[HASHED];
-    size_t most = n < HASHED ? n : HASHED, more = m < HASHED - most ? m : HASHED - most;
-    memcpy(name, first, most);
-    memcpy(name + most, rest, more);
-    return name_hash(name, n + m);
+/* The ends that a draft puts behind its labels. A name with one of them is hashed without it, so that a label is hashed once for both. */
+enum { NO_END, ASM_START, ASM_END, ENDS };
+static const struct name_end {
+    const char *text;
+    uint32_t length;
+} NAME_END[ENDS] = {{"", 0}, {"_asm_start", 10}, {"_asm_end", 8}};
+
+/* The hash of a name: the bytes before its end, their hash, and which end it is. */
+static inline uint32_t ended_hash(const uint8_t *bytes, size_t n, uint64_t hash, uint32_t end) {
+    bool is_label = n >= 7 ? memcmp(bytes, "_asmpp_", 7) == 0 : n == 6 && end != NO_END && memcmp(bytes, "_asmpp", 6) == 0;
+    bool is_gp_disp = n == 8 && end == NO_END && memcmp(bytes, "_gp_disp", 8) == 0;
+    uint32_t bits = is_label * IS_LABEL | (n == 0 && end == NO_END) * IS_EMPTY | is_gp_disp * IS_GP_DISP;
+    return (uint32_t)(mixed(hash, end) >> 32 & ~(uint64_t)NAME_BITS) | bits;
 }
 
-/* Whether the zero-ended string at `at` is this name in two parts. */
-static inline bool is_named(const struct object *object, uint32_t at, const uint8_t *first, size_t n, const uint8_t *rest, size_t m) {
+static inline uint32_t name_hash(const uint8_t *name, size_t length) {
+    uint32_t end = ENDS - 1;
+    while (end != NO_END
+           && (length <= NAME_END[end].length || memcmp(name + length - NAME_END[end].length, NAME_END[end].text, NAME_END[end].length) != 0))
+        end--;
+    size_t n = length - NAME_END[end].length;
+    return ended_hash(name, n, bytes_hash(name, n), end);
+}
+
+/* Whether the zero-ended string at `at` is these bytes and this end. */
+static inline bool is_named(const struct object *object, uint32_t at, const uint8_t *bytes, size_t n, uint32_t end) {
     const uint8_t *string = object->strings + at;
-    return n + m < object->strings_length - at && string[n + m] == 0 && memcmp(string, first, n) == 0
-        && (m == 0 || memcmp(string + n, rest, m) == 0);
+    size_t length = n + NAME_END[end].length;
+    return length < object->strings_length - at && string[length] == 0 && memcmp(string, bytes, n) == 0
+        && memcmp(string + n, NAME_END[end].text, NAME_END[end].length) == 0;
 }
 
-/* The first symbol of a name, or NONE. */
-static inline uint32_t find_joined(const struct names *names, uint32_t hash, const uint8_t *first, size_t n, const uint8_t *rest, size_t m) {
+/* The first symbol of a name with this end, or NONE. */
+static inline uint32_t find_ended(const struct names *names, uint32_t hash, const uint8_t *bytes, size_t n, uint32_t end) {
     uint32_t k = names->heads[hash >> 20];
-    while (k != NONE && !(names->name[k].hash == hash && is_named(names->object, be32(names->object->symbols + 16 * k), first, n, rest, m)))
+    while (k != NONE && !(names->name[k].hash == hash && is_named(names->object, be32(names->object->symbols + 16 * k), bytes, n, end)))
         k = names->name[k].next;
     return k;
 }
 
 static inline uint32_t find(const struct names *names, uint32_t hash, const uint8_t *name, size_t length) {
-    return find_joined(names, hash, name, length, NULL, 0);
+    return find_ended(names, hash, name, length, NO_END);
 }
 
 /* Tests the entries of the symbol table (refusal 5) and fills the buckets. */

@@ -88,10 +88,9 @@ static uint32_t carry_tables(struct merge *m, struct result *r) {
 
 /* ---- 11, 12: sections and labels of the spans */
 
-static bool is_label_at(const struct merge *m, const struct span *s, const char *end, uint32_t section, uint64_t value) {
-    const uint8_t *label = m->file + s->label, *rest = (const uint8_t *)end;
-    size_t n = s->label_length, length = strlen(end);
-    uint32_t k = find_joined(&m->a_names, joined_hash(label, n, rest, length), label, n, rest, length);
+static bool is_label_at(const struct merge *m, const struct span *s, uint64_t hash, uint32_t end, uint32_t section, uint64_t value) {
+    const uint8_t *label = m->file + s->label;
+    uint32_t k = find_ended(&m->a_names, ended_hash(label, s->label_length, hash, end), label, s->label_length, end);
     return k != NONE && be16(m->a.symbols + 16 * k + 14) == section && be32(m->a.symbols + 16 * k + 4) == value;
 }
 
@@ -105,7 +104,8 @@ static uint32_t line_up(struct merge *m) {
             uint64_t end = span_end(s);
             if (of_a == NULL || (code != BSS && (of_c == NULL || end > of_c->size || end > of_a->size))) return 11;
             if (code == TEXT && (s->place | s->size) % 4 != 0) return 11;
-            if (!is_label_at(m, s, "_asm_start", m->a.found[code], s->place) || !is_label_at(m, s, "_asm_end", m->a.found[code], end))
+            uint64_t hash = bytes_hash(m->file + s->label, s->label_length);
+            if (!is_label_at(m, s, hash, ASM_START, m->a.found[code], s->place) || !is_label_at(m, s, hash, ASM_END, m->a.found[code], end))
                 return 12;
         }
     }
