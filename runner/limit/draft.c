@@ -129,8 +129,8 @@ static void put_draft(uint8_t *to, const struct blocks *b, const uint8_t *file, 
 }
 
 /* 0, or a number; the draft is in `out` where the length that it needs is not over the room. */
-static uint32_t draft(struct work *w, const uint8_t *compiled, size_t compiled_length, const uint8_t *prelude, size_t prelude_length,
-                      const uint8_t *file, size_t file_length, uint8_t *out, size_t room, uint64_t *length) {
+static uint32_t make_draft(struct work *w, const uint8_t *compiled, size_t compiled_length, const uint8_t *prelude, size_t prelude_length,
+                           const uint8_t *file, size_t file_length, uint8_t *out, size_t room, uint64_t *length) {
     if (compiled_length > FILE_LIMIT || prelude_length > FILE_LIMIT || file_length > FILE_LIMIT) return 1;
     struct object object;
     struct names names = {&object, w->name, w->heads};
@@ -150,7 +150,7 @@ struct limit_outcome limit_draft(const uint8_t *compiled, size_t compiled_length
     uint64_t length = 0;
     uint32_t number = work_length < sizeof(struct work)
         ? 1
-        : draft(work, compiled, compiled_length, prelude, prelude_length, blocks, blocks_length, out, out_length, &length);
+        : make_draft(work, compiled, compiled_length, prelude, prelude_length, blocks, blocks_length, out, out_length, &length);
     memset(work, 0, work_length);
     size_t written = number == 0 ? length : 0;
     memset(out + written, 0, out_length - written);

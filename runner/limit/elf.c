@@ -28,9 +28,9 @@ static bool read_sections(struct object *o) {
     o->count = be16(o->file + 48);
     if (o->count < 1 || o->count > SECTION_LIMIT || at + 40 * (uint64_t)o->count > o->length) return false;
     for (uint32_t i = 0; i < o->count; i++) {
-        const uint8_t *words = o->file + at + 40 * i;
-        o->section[i] = (struct section){be32(words), be32(words + 4), be32(words + 8), be32(words + 12), be32(words + 16),
-                                         be32(words + 20), be32(words + 24), be32(words + 28), be32(words + 32), be32(words + 36)};
+        uint32_t word[10];
+        for (uint32_t k = 0; k < 10; k++) word[k] = be32(o->file + at + 40 * i + 4 * k);
+        memcpy(&o->section[i], word, sizeof word);
         if (!section_ok(&o->section[i], i == 0, o->length)) return false;
     }
     return true;
@@ -62,7 +62,7 @@ static bool name_sections(struct object *o) {
             if (n != CODE[c].length || memcmp(name, CODE[c].name, n) != 0) continue;
             if (c == MDEBUG ? !o->debug : o->found[c] == 0) o->found[c] = i;
             o->debug |= c == MDEBUG;
-            // Section 0 is of type 0, so the first section of codes 1 to 6 cannot be it.
+            // Section 0 is of type 0, which none of codes 1 to 6 has.
             if (c != MDEBUG && i == 0) return false;
         }
     }

@@ -2,7 +2,8 @@
  * and zeros where document 01 asks for them. A job that document 01 refuses gets a number, which need not be the right one; object and place are 0, but
  * for the length that refusal 21 gives.
  *
- * Nothing here is proved, and nothing but the runner links it. */
+ * Nothing here is proved, and nothing but the runner links it. No function is called `draft` or `merge`: the runner's fuzzing knows the proved calls by these
+ * names. */
 #ifndef LIMIT_H
 #define LIMIT_H
 

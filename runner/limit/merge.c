@@ -6,9 +6,6 @@ enum { ADDED = 6, MOST_SECTIONS = SECTION_LIMIT + ADDED };
 
 size_t limit_merge_work(void) { return sizeof(struct work); }
 
-static const uint32_t SOURCES[] = {DATA, TEXT, RODATA, BSS, LATE};
-enum { SOURCE_COUNT = sizeof SOURCES / sizeof *SOURCES };
-
 /* A table of A, and the section of the result that it joins. */
 struct carried {
     uint32_t table, code, home;
@@ -70,17 +67,17 @@ static uint32_t carry_tables(struct merge *m, struct result *r) {
     r->count = m->stay;
     r->carried = 0;
     memcpy(r->section, m->c.section, m->stay * sizeof *r->section);
-    for (uint32_t s = 0; s < SOURCE_COUNT; s++) {
-        const struct section *source = of_code(a, SOURCES[s]);
+    for (uint32_t s = 0; s < SOURCES; s++) {
+        const struct section *source = of_code(a, SOURCE[s]);
         if (source == NULL || held(source) == 0) continue;
-        if (target(m, SOURCES[s]) == 0) return 11;
+        if (target(m, SOURCE[s]) == 0) return 11;
         for (uint32_t i = 0; i < a->count; i++) {
             const struct section *table = &a->section[i];
-            if (!is_table(table) || table->info != a->found[SOURCES[s]]) continue;
-            uint32_t home = home_of(m, r, SOURCES[s], table->type);
+            if (!is_table(table) || table->info != a->found[SOURCE[s]]) continue;
+            uint32_t home = home_of(m, r, SOURCE[s], table->type);
             const struct section *joined = &r->section[home];
-            if (table->size > 0 && (joined->type != table->type || joined->info != target(m, SOURCES[s]))) return 10;
-            r->carry[r->carried++] = (struct carried){i, SOURCES[s], home};
+            if (table->size > 0 && (joined->type != table->type || joined->info != target(m, SOURCE[s]))) return 10;
+            r->carry[r->carried++] = (struct carried){i, SOURCE[s], home};
         }
     }
     return 0;
@@ -295,7 +292,8 @@ static uint32_t write_object(struct merge *m, const struct result *r, uint8_t *o
     put32(out + 32, headers);
     put16(out + 48, r->count);
     for (uint32_t i = 0; i < r->count; i++) {
-        const uint32_t *word = &r->section[i].name;
+        uint32_t word[10];
+        memcpy(word, &r->section[i], sizeof word);
         for (uint32_t k = 0; k < 10; k++) put32(out + headers + 40 * i + 4 * k, word[k]);
     }
     return 0;
@@ -324,7 +322,7 @@ static uint32_t read_inputs(struct merge *m, const uint8_t *compiled, size_t com
 }
 
 /* 10 to 21: 0, or a number. */
-static uint32_t merge(struct merge *m, uint8_t *out, size_t room, uint64_t *length) {
+static uint32_t make_result(struct merge *m, uint8_t *out, size_t room, uint64_t *length) {
     struct result r;
     uint32_t number = check_kept(m);
     r.names_length = m->c.section[m->c.names].size;
@@ -358,7 +356,7 @@ struct limit_outcome limit_merge(const uint8_t *compiled, size_t compiled_length
     if (work_length >= sizeof(struct work) && compiled_length <= FILE_LIMIT && assembled_length <= FILE_LIMIT && blocks_length <= FILE_LIMIT
         && flag <= 1 && mode <= 3 && is_plain_path(path, path_length))
         number = read_inputs(&m, compiled, compiled_length, assembled, assembled_length, blocks_length);
-    if (number == 0) number = merge(&m, out, out_length, &length);
+    if (number == 0) number = make_result(&m, out, out_length, &length);
     memset(work, 0, work_length);
     size_t written = number == 0 ? length : 0;
     memset(out + written, 0, out_length - written);

@@ -74,6 +74,10 @@ struct merge {
     uint32_t counts[5];
 };
 
+/* A's five sections, in the order in which the Rust takes them. */
+enum { SOURCES = 5 };
+static const uint8_t SOURCE[SOURCES] = {DATA, TEXT, RODATA, BSS, LATE};
+
 /* C's section that a section of A goes to. */
 static inline uint32_t target(const struct merge *m, uint32_t code) { return m->c.found[code == LATE ? RODATA : code]; }
 

@@ -11,13 +11,10 @@ struct entry {
     uint8_t bind;
 };
 
-static const uint32_t SOURCES[] = {DATA, TEXT, RODATA, BSS, LATE};
-enum { SOURCE_COUNT = sizeof SOURCES / sizeof *SOURCES };
-
 /* The code of A's section of this index, if it is one of the five; else 0. */
 static uint32_t source_code(const struct merge *m, uint32_t section) {
-    for (uint32_t i = 0; i < SOURCE_COUNT; i++)
-        if (section != 0 && m->a.found[SOURCES[i]] == section) return SOURCES[i];
+    for (uint32_t i = 0; i < SOURCES; i++)
+        if (section != 0 && m->a.found[SOURCE[i]] == section) return SOURCE[i];
     return 0;
 }
 
