@@ -5,20 +5,9 @@ struct reader {
     const uint8_t *at, *end;
 };
 
-static inline bool starts(const struct reader *r, const char *key, size_t length) {
-    return (size_t)(r->end - r->at) >= length && memcmp(r->at, key, length) == 0;
-}
-
-#define STARTS(r, key) starts(r, key, sizeof key - 1)
-
-/* Takes a key. */
-static inline bool key(struct reader *r, const char *word, size_t length) {
-    bool there = starts(r, word, length);
-    if (there) r->at += length;
-    return there;
-}
-
-#define KEY(r, word) key(r, word, sizeof word - 1)
+/* Takes a key, if the line starts with it. A macro, so that each key's length is known to the compiler. */
+#define KEY(r, word) \
+    ((size_t)((r)->end - (r)->at) >= sizeof word - 1 && memcmp((r)->at, word, sizeof word - 1) == 0 && ((r)->at += sizeof word - 1, true))
 
 /* Takes what is left of a line, and its LF. */
 static inline bool rest(struct reader *r) {

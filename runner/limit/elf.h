@@ -129,11 +129,13 @@ static inline uint32_t ended_hash(const uint8_t *bytes, size_t n, uint64_t hash,
     return (uint32_t)(mixed(hash, end) >> 32 & ~(uint64_t)NAME_BITS) | bits;
 }
 
+static inline uint32_t end_of(const uint8_t *name, size_t length) {
+    if (length > 10 && memcmp(name + length - 10, "_asm_start", 10) == 0) return ASM_START;
+    return length > 8 && memcmp(name + length - 8, "_asm_end", 8) == 0 ? ASM_END : NO_END;
+}
+
 static inline uint32_t name_hash(const uint8_t *name, size_t length) {
-    uint32_t end = ENDS - 1;
-    while (end != NO_END
-           && (length <= NAME_END[end].length || memcmp(name + length - NAME_END[end].length, NAME_END[end].text, NAME_END[end].length) != 0))
-        end--;
+    uint32_t end = end_of(name, length);
     size_t n = length - NAME_END[end].length;
     return ended_hash(name, n, bytes_hash(name, n), end);
 }

@@ -69,6 +69,7 @@ struct merge {
     const uint8_t *path;
     uint32_t path_length, flag, mode;
     uint32_t stay; /* C's sections that are not dropped */
+    uint8_t source[SECTION_LIMIT]; /* of A's sections, the code of each of the five */
     uint32_t statics, static_bytes;
     /* How many symbols stay, by their place in the result. */
     uint32_t counts[5];

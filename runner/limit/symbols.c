@@ -12,11 +12,7 @@ struct entry {
 };
 
 /* The code of A's section of this index, if it is one of the five; else 0. */
-static uint32_t source_code(const struct merge *m, uint32_t section) {
-    for (uint32_t i = 0; i < SOURCES; i++)
-        if (section != 0 && m->a.found[SOURCE[i]] == section) return SOURCE[i];
-    return 0;
-}
+static uint32_t source_code(const struct merge *m, uint32_t section) { return section < m->a.count ? m->source[section] : 0; }
 
 static bool is_placed(uint32_t section) { return section != SHN_UNDEF && section != SHN_ABS; }
 
@@ -280,6 +276,9 @@ static uint32_t list_statics(struct merge *m) {
 
 uint32_t list_symbols(struct merge *m) {
     memset(m->counts, 0, sizeof m->counts);
+    memset(m->source, 0, sizeof m->source);
+    for (uint32_t i = 0; i < SOURCES; i++) m->source[m->a.found[SOURCE[i]]] = SOURCE[i];
+    m->source[0] = 0; // where one of the five is not there
     mark_used(m);
     mark_glabels(m);
     uint32_t number = read_statics(m);
