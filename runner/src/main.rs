@@ -9,6 +9,7 @@ mod fence;
 mod fuzz;
 mod job;
 mod large;
+mod limit;
 mod merges;
 mod object;
 mod port;

@@ -1,8 +1,9 @@
-//! Times the proved calls and the Rust's on the same jobs in one process, turn by turn.
+//! Times the proved calls, the Rust's and those in plain C on the same jobs in one process, turn by turn.
 
 use crate::{
     job::{Job, Kind},
     large,
+    limit::{limit, working},
     object::{Index, Symbol, object},
     port::{invoke, least},
     random::Random,
@@ -102,10 +103,11 @@ fn made(size: Size) -> Job {
     }
 }
 
-/// Medians in microseconds, of the proved call and of the Rust, and the result's length.
+/// Medians in microseconds, of the proved call, of the Rust and of plain C, and the result's length.
 struct Times {
     port: f64,
     rust: f64,
+    plain: f64,
     length: usize,
 }
 
@@ -114,10 +116,10 @@ const MOST: usize = 8 << 20;
 
 fn time(job: &Job, rounds: usize) -> io::Result<Times> {
     let mut out = vec![0; MOST];
-    let mut working: Vec<Vec<u8>> = least(job.kind()).iter().map(|&n| vec![0; n]).collect();
+    let mut lent: Vec<Vec<u8>> = least(job.kind()).iter().map(|&n| vec![0; n]).collect();
     let files: Vec<&[u8]> = job.files().into_iter().map(|(_, bytes)| bytes).collect();
     let mut call = |room: usize, out: &mut [u8]| {
-        let lent = working.iter_mut().map(|buffer| &mut buffer[..]);
+        let lent = lent.iter_mut().map(|buffer| &mut buffer[..]);
         let mut buffers: Vec<&mut [u8]> = [&mut out[..room]].into_iter().chain(lent).collect();
         black_box(invoke(job, &files, &mut buffers))
     };
@@ -133,7 +135,9 @@ fn time(job: &Job, rounds: usize) -> io::Result<Times> {
         statics: settings.map_or(0, |settings| settings.mode as u8),
     };
     let room = call(MOST, &mut out).length as usize;
-    let (mut port, mut rust) = (vec![], vec![]);
+    let mut second_out = vec![0; room];
+    let mut work = working(job.kind());
+    let (mut port, mut rust, mut plain) = (vec![], vec![], vec![]);
     for _ in 0..rounds {
         let start = Instant::now();
         let outcome = call(room, &mut out);
@@ -141,15 +145,21 @@ fn time(job: &Job, rounds: usize) -> io::Result<Times> {
         let start = Instant::now();
         let answer = black_box(run(&asked, Shell::Quick));
         rust.push(start.elapsed().as_secs_f64() * 1e6);
+        let start = Instant::now();
+        let other = black_box(limit(job, &mut second_out, &mut work));
+        plain.push(start.elapsed().as_secs_f64() * 1e6);
         let same = matches!(&answer, Answer::Done(done) if *done == out[..room]);
-        if outcome.number != 0 || !same {
-            return Err(io::Error::other(format!("{outcome:?}, the Rust: {same}")));
+        let alike = other == outcome && second_out == out[..room];
+        if outcome.number != 0 || !same || !alike {
+            let words = format!("{outcome:?}, the Rust: {same}, plain C: {other:?}, {alike}");
+            return Err(io::Error::other(words));
         }
     }
-    let [port, rust] = [port, rust].map(median);
+    let [port, rust, plain] = [port, rust, plain].map(median);
     Ok(Times {
         port,
         rust,
+        plain,
         length: room,
     })
 }
@@ -171,9 +181,9 @@ pub fn speed(kind: Kind, rounds: usize, part: &str) -> io::Result<()> {
 /// Merges of all sizes, and such as make a careless merge slow; those have few rounds.
 fn merges(rounds: usize, part: &str) -> io::Result<()> {
     println!(
-        "| job | blocks | symbols of C and of A | relocations | statics | C and A, bytes | result | proved, us | Rust, us | Rust / proved |"
+        "| job | blocks | symbols of C and of A | relocations | statics | C and A, bytes | result | proved, us | Rust, us | Rust / proved | plain C, us | proved / plain C |"
     );
-    println!("|---|---|---|---|---|---|---|---|---|---|");
+    println!("|---|---|---|---|---|---|---|---|---|---|---|---|");
     for (name, size) in large::sizes() {
         if !name.contains(part) {
             continue;
@@ -184,15 +194,21 @@ fn merges(rounds: usize, part: &str) -> io::Result<()> {
         } else {
             rounds
         };
-        let Times { port, rust, length } = time(&job, rounds)?;
+        let Times {
+            port,
+            rust,
+            plain,
+            length,
+        } = time(&job, rounds)?;
         let [of_c, of_a] = [&job.compiled, &job.second].map(|file| large::symbols(file));
         println!(
-            "| {name} | {} | {of_c}, {of_a} | {} | {} | {} | {length} | {port:.1} | {rust:.1} | {:.1} |",
+            "| {name} | {} | {of_c}, {of_a} | {} | {} | {} | {length} | {port:.1} | {rust:.1} | {:.1} | {plain:.1} | {:.1} |",
             size.blocks,
             2 * size.relocations,
             size.statics,
             job.compiled.len() + job.second.len(),
-            rust / port
+            rust / port,
+            port / plain
         );
     }
     Ok(())
@@ -200,9 +216,9 @@ fn merges(rounds: usize, part: &str) -> io::Result<()> {
 
 fn drafts(rounds: usize, part: &str) -> io::Result<()> {
     println!(
-        "| job | blocks | symbols | block file | draft | proved, us | Rust, us | Rust / proved | proved, ns a byte |"
+        "| job | blocks | symbols | block file | draft | proved, us | Rust, us | Rust / proved | proved, ns a byte | plain C, us | proved / plain C |"
     );
-    println!("|---|---|---|---|---|---|---|---|---|");
+    println!("|---|---|---|---|---|---|---|---|---|---|---|");
     let mut rows: Vec<(String, Size)> = vec![
         ("small".into(), SMALL),
         ("typical".into(), TYPICAL),
@@ -243,16 +259,22 @@ fn drafts(rounds: usize, part: &str) -> io::Result<()> {
 
 fn row(name: &str, size: Size, rounds: usize) -> io::Result<()> {
     let job = made(size);
-    let Times { port, rust, length } = time(&job, rounds)?;
+    let Times {
+        port,
+        rust,
+        plain,
+        length,
+    } = time(&job, rounds)?;
     let Size {
         blocks, symbols, ..
     } = size;
     let bytes = job.blocks.len() + length;
     println!(
-        "| {name} | {blocks} | {symbols} | {} | {length} | {port:.1} | {rust:.1} | {:.1} | {:.1} |",
+        "| {name} | {blocks} | {symbols} | {} | {length} | {port:.1} | {rust:.1} | {:.1} | {:.1} | {plain:.1} | {:.1} |",
         job.blocks.len(),
         rust / port,
-        port * 1e3 / bytes as f64
+        port * 1e3 / bytes as f64,
+        port / plain
     );
     Ok(())
 }
