@@ -1,6 +1,6 @@
 -- The laws of a test of a line that answers where the next one starts. Assumes nothing.
 use Prim.Native.Nat.{ℕ, _+_, _-_, _≤_, _<_}
-use mathlib.Core.Path.{_≡_, sym, _∙_}
+use mathlib.Core.Path.{_≡_, sym, ap, _∙_}
 use mathlib.Core.Bool.{Bool, true, false, _&&_, cond}
 use mathlib.Core.List.{List}
 use native.Mathlib.Omega.{arith}
@@ -51,3 +51,6 @@ module _ (B : List ℕ) (k a : ℕ) where
 
   pub after-some : 0 < lineAfter B k a → isKeyLine B k a ≡ true
   after-some h = sym after-told ∙ lt-ltb 0 (lineAfter B k a) h
+
+  pub after-zero : lineAfter B k a ≡ 0 → isKeyLine B k a ≡ false
+  after-zero z = sym after-told ∙ ap (ltb 0) z
