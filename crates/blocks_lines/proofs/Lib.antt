@@ -2,3 +2,4 @@ pub mod Lines
 pub mod Words
 pub mod Keys
 pub mod After
+pub mod Prefixes

@@ -17,7 +17,7 @@ use Rattle.blocks_lines.specs.Lines.{lineEnd}
 use Rattle.base_fields.specs.declared.ByteOrder.the-variants.{Little}
 use Rattle.base_fields.specs.Numbers.{number}
 use Rattle.base_fields.proofs.Numbers.{little-4}
-use Rattle.blocks_lines.specs.Words.{wordAt, bytesOf, zeroMarks, feedMarks, FeedIn}
+use Rattle.blocks_lines.specs.Words.{wordAt, bytesOf, zeroMarks, feedMarks}
 use Rattle.blocks_lines.proofs.Lines.{end-here, end-next}
 
 -- the marks of a word are those of its lowest byte and of the others
@@ -115,15 +115,15 @@ module _ (B : List ℕ) (bytes : (i : ℕ) → getD B i 0 < 256) where
 
   -- what the eight bytes at a are found to hold, by their marks t
   module _ (a t : ℕ) (h : a + 8 ≤ length B) (is : t ≡ feedMarks 8 (wordAt B a 8)) where
-    pub found-none : t ≡ 0 → FeedIn B a 8
-    found-none z = record { here = λ l. absurd (omega arith); none = λ l. no-feed 8 a h (sym is ∙ z) }
+    pub found-none : t ≡ 0 → lineEnd B a ≡ lineEnd B (a + 8)
+    found-none z = no-feed 8 a h (sym is ∙ z)
 
-    pub found : (t ≡ 0 → ⊥) → FeedIn B a (trailingZeros 64 t / 8)
-    found d =
+    pub found : (t ≡ 0 → ⊥) → (n : ℕ) → n ≡ trailingZeros 64 t / 8 → (lineEnd B a ≡ a + n) × (n < 8)
+    found d n m =
         let f = feed-in 8 a h (λ z. d (is ∙ z)) in
         let e : trailingZeros 64 t ≡ 8 * f .byte + 7 =
         ap (trailingZeros 64) (is ∙ f .mark) ∙ zeros-below 64 (f .times) (8 * f .byte + 7) (f .odd) (omega (arith, f .low)) in
-        record { here = λ l. omega (arith, f .end, e); none = λ l. absurd (omega (arith, f .low, e)) }
+        (omega (arith, f .end, e), omega (arith, f .low, e))
 
 -- eight bytes are two numbers of four
 pub word-eight : (B : List ℕ) (a : ℕ) → a + 8 ≤ length B → number Little 4 B (a + 4) * 4294967296 + number Little 4 B a ≡ wordAt B a 8

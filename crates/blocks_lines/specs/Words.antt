@@ -1,10 +1,8 @@
 -- Of the code, not of document 01: LFs are looked for in words of eight bytes, the first byte the lowest.
-use Prim.Native.Nat.{ℕ, zero, suc, _+_, _*_, _≤_, _<_}
-use mathlib.Core.Path.{_≡_}
+use Prim.Native.Nat.{ℕ, zero, suc, _+_, _*_}
 use mathlib.Core.List.{List}
 use lib.ListN.{getD}
 use lib.Bits.{bitAnd, bitOr, bitXor}
-use Rattle.blocks_lines.specs.Lines.{lineEnd}
 
 -- the number of the n bytes at a
 unfoldable pub wordAt : List ℕ → ℕ → ℕ → ℕ
@@ -23,8 +21,3 @@ zeroMarks n x = bitAnd (bitXor (bitOr (bitAnd x (bytesOf 127 n) + bytesOf 127 n)
 -- where a byte of w is an LF
 unfoldable pub feedMarks : ℕ → ℕ → ℕ
 feedMarks n w = zeroMarks n (bitXor w (bytesOf 10 n))
-
--- the first LF of the eight bytes at a is the one r bytes on; from r = 8 on there is none
-pub record FeedIn (B : List ℕ) (a r : ℕ) : Type 0 where
-  pub here : r < 8 → lineEnd B a ≡ a + r
-  pub none : 8 ≤ r → lineEnd B a ≡ lineEnd B (a + 8)

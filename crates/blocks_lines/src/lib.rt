@@ -1,11 +1,12 @@
 // The lines of a block file: where they end, what their keys are and which value may stand behind each. Every function equals its definition in specs/.
 ghost use mathlib.Core.Path.{_≡_};
 ghost use mathlib.Core.Bool.{true, false, _&&_};
-ghost use Prim.Native.Nat.{_+_, _≤_, _<_};
+ghost use Prim.Native.Nat.{_+_, _/_, _≤_, _<_};
 ghost use lib.ListN.{length, take, drop};
+ghost use lib.Count.{trailingZeros};
 ghost use Rattle.base_lists.specs.Strings.{prefixed};
 ghost use Rattle.blocks_lines.specs.Lines.{lineEnd, line, lineNumber};
-ghost use Rattle.blocks_lines.specs.Words.{wordAt, feedMarks, FeedIn};
+ghost use Rattle.blocks_lines.specs.Words.{wordAt, feedMarks};
 ghost use Rattle.blocks_lines.specs.Keys.{KEYS, keyName, repeats, valueSound, isKeyLine, valueAt};
 ghost use Rattle.blocks_lines.specs.After.{lineAfter};
 use base_fields::ByteOrder;
@@ -42,15 +43,10 @@ fn feed_marks(word: u64) -> u64
     ((sum | x) ^ 0xffffffffffffffff) & 0x8080808080808080
 }
 
-// The first LF of the eight bytes at `at`, counted from there, or 8.
-fn feed_in(file: &[u8], at: usize) -> usize
-    requires { ⌜ at + 8 ≤ length (now file) ⌝ }
-    ensures { λ r. ⌜ FeedIn (now (file .entry)) at r ⌝ }
+// Which byte of a word has the lowest mark; the word has one.
+fn first_mark(marks: u64) -> usize
+    ensures { λ r. ⌜ r ≡ trailingZeros 64 marks / 8 ⌝ }
 {
-    let marks = feed_marks(word_at(file, at));
-    if marks == 0 {
-        return 8;
-    }
     (u64::trailing_zeros(marks) / 8) as usize
 }
 
@@ -77,9 +73,9 @@ pub fn line_end(file: &[u8], at: usize) -> usize
         if file.len() - i < 8 {
             return end_by_bytes(file, i);
         }
-        let n = feed_in(file, i);
-        if n < 8 {
-            return i + n;
+        let marks = feed_marks(word_at(file, i));
+        if marks != 0 {
+            return i + first_mark(marks);
         }
         i += 8;
     }
@@ -115,23 +111,40 @@ pub fn line_number(file: &[u8], at: usize) -> usize
     n
 }
 
+// Whether a line begins with a key. Keys are short, so it goes byte by byte, and the compiler compares with each key at once.
+fn has_prefix(line: &[u8], key: &[u8]) -> bool
+    ensures { λ r. ⌜ r ≡ prefixed (now (key .entry)) (now (line .entry)) ⌝ }
+{
+    if line.len() < key.len() {
+        return false;
+    }
+    let mut i: usize = 0;
+    while i < key.len() {
+        if line[i] != key[i] {
+            return false;
+        }
+        i += 1;
+    }
+    true
+}
+
 // Whether a line begins with key k.
 fn has_key(k: u32, line: &[u8]) -> bool
     requires { ⌜ k < KEYS ⌝ }
     ensures { λ r. ⌜ r ≡ prefixed (keyName k) (now (line .entry)) ⌝ }
 {
     match k {
-        0 => base_names::has_prefix(line, b"desc="),
-        1 => base_names::has_prefix(line, b"text="),
-        2 => base_names::has_prefix(line, b"data="),
-        3 => base_names::has_prefix(line, b"rodata="),
-        4 => base_names::has_prefix(line, b"bss="),
-        5 => base_names::has_prefix(line, b"glabel="),
-        6 => base_names::has_prefix(line, b"dummy="),
-        7 => base_names::has_prefix(line, b"jtbl="),
-        8 => base_names::has_prefix(line, b"asm="),
-        9 => base_names::has_prefix(line, b"late="),
-        _ => base_names::has_prefix(line, b"end="),
+        0 => has_prefix(line, b"desc="),
+        1 => has_prefix(line, b"text="),
+        2 => has_prefix(line, b"data="),
+        3 => has_prefix(line, b"rodata="),
+        4 => has_prefix(line, b"bss="),
+        5 => has_prefix(line, b"glabel="),
+        6 => has_prefix(line, b"dummy="),
+        7 => has_prefix(line, b"jtbl="),
+        8 => has_prefix(line, b"asm="),
+        9 => has_prefix(line, b"late="),
+        _ => has_prefix(line, b"end="),
     }
 }
 

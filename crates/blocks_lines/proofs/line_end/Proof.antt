@@ -1,13 +1,15 @@
--- No LF is among the words passed over, so the line at i ends where the line at `at` does; the loop stops at a word that has one, or near the end of the file.
--- Assumes nothing.
+-- No LF is among the words passed over, so the line at i ends where the line at `at` does; the loop stops at a word that has one, whose lowest mark is the first,
+-- or near the end of the file. Assumes nothing.
 use borrow.Author.Needs.{needs}
 use native.Mathlib.Omega.{arith}
 use Prim.Native.Nat.{_-_}
-use mathlib.Core.Path.{_≡_, refl, sym, _∙_}
+use mathlib.Core.Path.{_≡_, refl, sym, ap, _∙_}
 use lib.ListN.{length}
 use denote.Ref.{now}
 use Rattle.blocks_lines.specs.Lines.{lineEnd}
+use Rattle.blocks_lines.specs.Words.{wordAt, feedMarks}
 use Rattle.blocks_lines.proofs.Lines.{end-past}
+use Rattle.blocks_lines.proofs.Words.{found-none, found}
 use Rattle.blocks_lines.proofs.line_end.Statement.{statement}
 use Rattle.blocks_lines.proofs.line_end.Tie as tie
 
@@ -29,14 +31,35 @@ end-by-bytes-requires c κs = search needs
 returns : tie.Need-returns Inv-loop μ-loop
 returns c = c .end-by-bytes .ensures ∙ sym (c .before .before .before .loop .inv)
 
-feed-in-requires : tie.Need-feed-in-requires Inv-loop μ-loop
-feed-in-requires c κs = omega arith
+word-at-requires : tie.Need-word-at-requires Inv-loop μ-loop
+word-at-requires c κs = omega arith
+
+feed-marks-requires : tie.Need-feed-marks-requires Inv-loop μ-loop
+feed-marks-requires c κs = search needs
+
+first-mark-requires : tie.Need-first-mark-requires Inv-loop μ-loop
+first-mark-requires c κs = search needs
+
+-- the marks of the word at i
+marked : (c : tie.After-feed-marks Inv-loop μ-loop)
+    → c .feed-marks .result ≡ feedMarks 8 (wordAt (now (c .before .before .before .before .before .before .args .file)) (c .before .before .before .before .loop .i) 8)
+marked c = c .feed-marks .ensures ∙ ap (feedMarks 8) (c .before .word-at .ensures)
 
 add-result : tie.Need-add-result Inv-loop μ-loop
-add-result c = search needs
+add-result c =
+    let a = c .before .before .before .before .before .before .before .before .args in
+    let l = c .before .before .before .before .before .before .loop in
+    let known = c .before .before .before .before .before .before .before .shared-slice-known .given in
+    let m = c .before .before .feed-marks in
+    omega (arith, found (now (a .file)) (λ i. omega (arith, known i)) (l .i) (m .result) (omega arith) (marked (c .before .before)) (c .before .if2 .taken) (c .first-mark .result) (c .first-mark .ensures) .1)
 
 returns-2 : tie.Need-returns-2 Inv-loop μ-loop
-returns-2 c = sym (c .before .before .before .before .loop .inv ∙ c .before .feed-in .ensures .here (c .if2 .taken))
+returns-2 c =
+    let a = c .before .before .before .before .before .before .before .before .args in
+    let l = c .before .before .before .before .before .before .loop in
+    let known = c .before .before .before .before .before .before .before .shared-slice-known .given in
+    let m = c .before .before .feed-marks in
+    sym (l .inv ∙ found (now (a .file)) (λ i. omega (arith, known i)) (l .i) (m .result) (omega arith) (marked (c .before .before)) (c .before .if2 .taken) (c .first-mark .result) (c .first-mark .ensures) .0)
 
 add-i : tie.Need-add-i Inv-loop μ-loop
 add-i c = search needs
@@ -45,7 +68,12 @@ loop-less : tie.Need-loop-less Inv-loop μ-loop
 loop-less c = omega arith
 
 loop-again : tie.Need-loop-again Inv-loop μ-loop
-loop-again c = c .before .before .before .before .loop .inv ∙ c .before .feed-in .ensures .none (c .if2 .left)
+loop-again c =
+    let a = c .before .before .before .before .before .before .before .args in
+    let l = c .before .before .before .before .before .loop in
+    let known = c .before .before .before .before .before .before .shared-slice-known .given in
+    let m = c .before .feed-marks in
+    l .inv ∙ found-none (now (a .file)) (λ i. omega (arith, known i)) (l .i) (m .result) (omega arith) (marked (c .before)) (c .if2 .left)
 
 returns-3 : tie.Need-returns-3 Inv-loop μ-loop
 returns-3 c =
@@ -62,7 +90,9 @@ line-end-spec =
     sub-if1
     end-by-bytes-requires
     returns
-    feed-in-requires
+    word-at-requires
+    feed-marks-requires
+    first-mark-requires
     add-result
     returns-2
     add-i
