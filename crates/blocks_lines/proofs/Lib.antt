@@ -2,4 +2,3 @@ pub mod Lines
 pub mod Words
 pub mod Keys
 pub mod After
-pub mod Prefixes

@@ -111,40 +111,23 @@ pub fn line_number(file: &[u8], at: usize) -> usize
     n
 }
 
-// Whether a line begins with a key. Keys are short, so it goes byte by byte, and the compiler compares with each key at once.
-fn has_prefix(line: &[u8], key: &[u8]) -> bool
-    ensures { λ r. ⌜ r ≡ prefixed (now (key .entry)) (now (line .entry)) ⌝ }
-{
-    if line.len() < key.len() {
-        return false;
-    }
-    let mut i: usize = 0;
-    while i < key.len() {
-        if line[i] != key[i] {
-            return false;
-        }
-        i += 1;
-    }
-    true
-}
-
 // Whether a line begins with key k.
 fn has_key(k: u32, line: &[u8]) -> bool
     requires { ⌜ k < KEYS ⌝ }
     ensures { λ r. ⌜ r ≡ prefixed (keyName k) (now (line .entry)) ⌝ }
 {
     match k {
-        0 => has_prefix(line, b"desc="),
-        1 => has_prefix(line, b"text="),
-        2 => has_prefix(line, b"data="),
-        3 => has_prefix(line, b"rodata="),
-        4 => has_prefix(line, b"bss="),
-        5 => has_prefix(line, b"glabel="),
-        6 => has_prefix(line, b"dummy="),
-        7 => has_prefix(line, b"jtbl="),
-        8 => has_prefix(line, b"asm="),
-        9 => has_prefix(line, b"late="),
-        _ => has_prefix(line, b"end="),
+        0 => base_names::has_prefix(line, b"desc="),
+        1 => base_names::has_prefix(line, b"text="),
+        2 => base_names::has_prefix(line, b"data="),
+        3 => base_names::has_prefix(line, b"rodata="),
+        4 => base_names::has_prefix(line, b"bss="),
+        5 => base_names::has_prefix(line, b"glabel="),
+        6 => base_names::has_prefix(line, b"dummy="),
+        7 => base_names::has_prefix(line, b"jtbl="),
+        8 => base_names::has_prefix(line, b"asm="),
+        9 => base_names::has_prefix(line, b"late="),
+        _ => base_names::has_prefix(line, b"end="),
     }
 }
 

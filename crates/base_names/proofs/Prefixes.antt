@@ -1,4 +1,4 @@
--- The turns of the loop that compares a line with a key: the bytes passed over are equal, so the line begins with the key where the rests agree. Assumes nothing.
+-- The turns of the loop that compares a string with a prefix: the bytes passed over are equal, so the string begins with it where the rests agree. Assumes nothing.
 use Prim.Native.Nat.{ℕ, _+_, _≤_, _<_}
 use mathlib.Core.Path.{_≡_, refl, _∙_}
 use mathlib.Core.Bool.{true, false}
