@@ -19,6 +19,8 @@ use Rattle.blocks_values.specs.Values.{numberSound, lineSound, jumpTableSound}
 use Rattle.blocks_lines.specs.Keys.{KEYS, keys, repeats, valueSound, valueAt, isKeyLine}
 use Rattle.blocks_lines.proofs.Lines.{end-low, end-high, end-past, whole-lt, next-low, next-high}
 use Rattle.blocks_lines.proofs.Keys.{repeats-low, value-section, key-line-not, key-line-whole, key-line-sound}
+use Rattle.blocks_lines.specs.After.{lineAfter}
+use Rattle.blocks_lines.proofs.After.{after-line, after-zero, after-some}
 use Rattle.blocks_file.specs.Blocks.{skipFrom, skip, groupEnd, groupAt, isFaulty, faultyGroup, blockAt, stopsAt, blockCount, faultAt, blockFault}
 
 module _ (B : List ℕ) where
@@ -70,6 +72,16 @@ module _ (B : List ℕ) where
 
   pub skip-past : (k a : ℕ) → length B ≤ a → skip B k a ≡ a
   skip-past k a h = skip-here k a (key-past k a h)
+
+  -- the same of a turn that asks where the next line starts
+  pub skip-stop : (k a n : ℕ) → n ≡ lineAfter B k a → n ≡ 0 → skip B k a ≡ a
+  skip-stop k a n e z = skip-here k a (after-zero B k a (sym e ∙ z))
+
+  pub skip-turn : (k a n : ℕ) → n ≡ lineAfter B k a → (n ≡ 0 → ⊥) → (skip B k a ≡ skip B k n) × (a < n)
+  skip-turn k a n e d =
+      let t : isKeyLine B k a ≡ true = after-some B k a (omega arith) in
+      let f : n ≡ next B a = e ∙ after-line B k a t in
+      (skip-next k a t ∙ ap (skip B k) (sym f), omega (arith, next-low B a))
 
   from-none : (k a : ℕ) → skipFrom B k a zero ≡ a
   unfolding skipFrom

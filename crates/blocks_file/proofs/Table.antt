@@ -2,14 +2,14 @@
 -- was written; and what a turn of the loop that fills it changes. Assumes nothing.
 use Prim.Native.Nat.{ℕ, _+_, _*_, _≤_, _<_}
 use mathlib.Core.Path.{_≡_, refl, sym, ap, _∙_}
-use mathlib.Core.Bool.{true}
+use mathlib.Core.Bool.{true, false, not, _&&_}
 use mathlib.Core.List.{List, [], _++_, append-nil}
 use native.Mathlib.Omega.{arith}
-use lib.ListN.{length, drop, getD, set, replicate}
+use lib.ListN.{length, drop, getD, set, replicate, List·getD-append}
 use Rattle.base_lists.specs.Ranges.{first, select}
 use Rattle.base_lists.specs.Windows.{Within, spliced}
 use Rattle.base_lists.specs.Records.{flat}
-use Rattle.base_lists.proofs.Ranges.{first-here, first-next, first-end, by-lt, gather-zero, gather-yes, select-zero, gather-all-length, select-all-at, select-all-length, select-all-put}
+use Rattle.base_lists.proofs.Ranges.{first-here, first-next, first-end, by-test, by-lt, both, gather-zero, gather-yes, select-zero, gather-all-length, select-all-at, select-all-length, select-all-put}
 use Rattle.base_lists.proofs.Windows.{within-at, within-within, within-fits, within-spliced, length-spliced, spliced-nil, spliced-then, within-gather}
 use Rattle.base_lists.proofs.Records.{length-flat, within-flat}
 use Rattle.base_fields.specs.declared.ByteOrder.the-variants.{Big}
@@ -18,11 +18,14 @@ use Rattle.base_fields.proofs.Numbers.{length-encoded, within-number}
 use Rattle.base_scope.specs.declared.Finding.the-variants.{Clear, At}
 use Rattle.base_scope.specs.Limits.{FILE_LIMIT, BLOCK_LIMIT, BLOCK_ROW, BLOCK_TABLE}
 use Rattle.blocks_lines.specs.Lines.{lineNumber}
-use Rattle.blocks_lines.specs.Keys.{KEYS}
-use Rattle.blocks_file.specs.Blocks.{groupAt, faultyGroup, blockAt, stopsAt, blockCount, blockFault}
-use Rattle.blocks_file.specs.Table.{groupIn, groups, blockRow, blockTable, badLine, Parsed, Reading}
+use Rattle.blocks_lines.specs.Keys.{KEYS, repeats, isKeyLine}
+use Rattle.blocks_lines.specs.After.{lineAfter}
+use Rattle.blocks_lines.proofs.Keys.{repeats-low}
+use Rattle.blocks_lines.proofs.After.{after-line, after-zero, after-some}
+use Rattle.blocks_file.specs.Blocks.{skip, groupEnd, groupAt, isFaulty, faultyGroup, blockAt, stopsAt, blockCount, blockFault}
+use Rattle.blocks_file.specs.Table.{groupAfter, Grouped, groupIn, groups, blockRow, blockTable, badLine, Parsed, Reading}
 use Rattle.blocks_file.specs.declared.BlockFile.{BlockFile}
-use Rattle.blocks_file.proofs.Blocks.{block-zero, block-next, group-inside, faulty-high, stops-end, stops-faulty, stops-not, count-high, fault-none, fault-limit, fault-line}
+use Rattle.blocks_file.proofs.Blocks.{skip-low, group-end-many, group-end-one, group-zero, group-turn, group-grows, group-mono, faulty-start, faulty-here, faulty-next, block-zero, block-next, group-inside, faulty-high, stops-end, stops-faulty, stops-not, count-high, fault-none, fault-limit, fault-line}
 
 module _ (B : List ℕ) where
   -- ---- rows
@@ -34,10 +37,6 @@ module _ (B : List ℕ) where
   pub groups-at : (a k : ℕ) → k < 12 → getD (groups B a) k 0 ≡ groupAt B a k
   unfolding groups
   groups-at a k h = select-all-at (groupAt B a) k 12 0 h
-
-  -- the same of a list that is known to be those starts
-  pub start-of : (a k : ℕ) (row : List ℕ) → row ≡ groups B a → k < 12 → getD row k 0 ≡ groupAt B a k
-  start-of a k row e h = rw e (groups-at a k h)
 
   -- the first k starts, in a row of zeros
   unfoldable pub started : ℕ → ℕ → List ℕ
@@ -54,6 +53,12 @@ module _ (B : List ℕ) where
   pub started-all : (a : ℕ) → started a 12 ≡ groups B a
   unfolding started groups
   started-all a = append-nil (select (λ j. true) (groupAt B a) 12)
+
+  pub started-at : (a k j : ℕ) → j < k → getD (started a k) j 0 ≡ groupAt B a j
+  unfolding started
+  started-at a k j h =
+      List·getD-append (select (λ j. true) (groupAt B a) k) (drop k (replicate 12 0)) 0 j (rw (select-all-length (groupAt B a) k) h)
+      ∙ select-all-at (groupAt B a) j k 0 h
 
   pub length-row : (i : ℕ) → length (blockRow B i) ≡ 48
   unfolding blockRow
@@ -82,6 +87,82 @@ module _ (B : List ℕ) where
   within-word i k h =
       rw (← groups-at (blockAt B i) k h)
       (within-flat (encoded Big 4) 4 (length-encoded Big 4) (groups B (blockAt B i)) k 0 (rw (length-groups (blockAt B i)) h))
+
+-- ---- the loop that reads the groups of a block
+
+module _ (B : List ℕ) (k a n : ℕ) where
+  pub after-many : repeats k ≡ true → n ≡ skip B k a → n ≡ groupAfter B k a
+  unfolding groupAfter
+  after-many t e = rw t e
+
+  pub after-one : repeats k ≡ false → n ≡ lineAfter B k a → n ≡ groupAfter B k a
+  unfolding groupAfter
+  after-one f e = rw f e
+
+  -- 0 tells a fault, but for a group that repeats at the start of the file; there is none
+  after-fault : n ≡ groupAfter B k a → n ≡ 0 → (repeats k ≡ true → 0 < a) → (not (repeats k) && not (isKeyLine B k a)) ≡ true
+  unfolding groupAfter
+  after-fault e z g = by-test (repeats k)
+      (λ t. let s : n ≡ skip B k a = rw t at e in absurd (omega (arith, g t, skip-low B k a)))
+      (λ f. let s : n ≡ lineAfter B k a = rw f at e in rw (f, after-zero B k a (sym s ∙ z)))
+
+  after-sound : n ≡ groupAfter B k a → (n ≡ 0 → ⊥) → ((not (repeats k) && not (isKeyLine B k a)) ≡ false) × (n ≡ groupEnd B k a)
+  unfolding groupAfter
+  after-sound e d = by-test (repeats k)
+      (λ t. let s : n ≡ skip B k a = rw t at e in (rw t, s ∙ sym (group-end-many B k a t)))
+      (λ f.
+      let s : n ≡ lineAfter B k a = rw f at e in
+      let t : isKeyLine B k a ≡ true = after-some B k a (omega arith) in
+      (rw (f, t), s ∙ after-line B k a t ∙ sym (group-end-one B k a f)))
+
+-- k groups of the block at a were read, none of them faulty, and group k starts at p
+pub record Sound (B : List ℕ) (a k p : ℕ) (row : List ℕ) : Type 0 where
+  pub few : k ≤ KEYS
+  pub place : p ≡ groupAt B a k
+  pub starts : row ≡ started B a k
+  pub none : faultyGroup B a ≡ first (isFaulty B a) k KEYS
+
+pub sound-none : (B : List ℕ) (a : ℕ) → Sound B a 0 a (replicate 12 0)
+sound-none B a = record { few = omega arith; place = sym (group-zero B a); starts = sym (started-none B a); none = faulty-start B a }
+
+module _ (B : List ℕ) (a k p : ℕ) (row : List ℕ) (s : Sound B a k p row) where
+  -- only the first group can start the file, and it does not repeat
+  behind : repeats k ≡ true → 0 < p
+  behind t = by-lt 0 k
+      (λ h. omega (arith, s .place, group-grows B a 0 (repeats-low 0 (omega arith)), group-mono B a 1 k (omega arith)))
+      (λ h. let e : k ≡ 0 = omega arith in both t (ap repeats e ∙ repeats-low 0 (omega arith)))
+
+  pub sound-next : (n : ℕ) → k < KEYS → n ≡ groupAfter B k p → (n ≡ 0 → ⊥) → Sound B a (k + 1) n (set row k p)
+  sound-next n h e d =
+      let t = after-sound B k p n e d in
+      record {
+        few = omega arith;
+        place = group-turn B a k p n (s .place) (t .1);
+        starts = started-put B a k row p (s .starts) (s .place) (omega arith);
+        none = s .none ∙ faulty-next B a k p h (s .place) (t .0);
+      }
+
+  pub sound-fault : (n : ℕ) → k < KEYS → n ≡ groupAfter B k p → n ≡ 0 → Grouped B a (record { starts = set row k p; faulty = k })
+  sound-fault n h e z =
+      let f : faultyGroup B a ≡ k = s .none ∙ faulty-here B a k p h (s .place) (after-fault B k p n e z behind) in
+      let u : set row k p ≡ started B a (k + 1) = started-put B a k row p (s .starts) (s .place) (omega arith) in
+      record {
+        faulty = sym f;
+        start = λ j l. rw u (started-at B a (k + 1) j (omega arith));
+        whole = λ g. absurd (omega arith);
+      }
+
+  pub sound-all : k ≡ KEYS → Grouped B a (record { starts = set row KEYS p; faulty = KEYS })
+  sound-all h =
+      let f : faultyGroup B a ≡ KEYS = s .none ∙ first-end (isFaulty B a) k KEYS (omega arith) ∙ h in
+      let v : row ≡ started B a KEYS = s .starts ∙ ap (started B a) h in
+      let w : p ≡ groupAt B a KEYS = s .place ∙ ap (groupAt B a) h in
+      let u : set row KEYS p ≡ started B a 12 = started-put B a KEYS row p v w (omega arith) in
+      record {
+        faulty = sym f;
+        start = λ j l. rw u (started-at B a 12 j (omega arith));
+        whole = λ g. u ∙ started-all B a;
+      }
 
 -- ---- a table in hand
 

@@ -2,11 +2,10 @@
 ghost use mathlib.Core.Path.{_≡_};
 ghost use Prim.Native.Nat.{_+_, _*_, _≤_, _<_};
 ghost use lib.ListN.{length};
-ghost use mathlib.Core.Bool.{not, _&&_};
 ghost use Rattle.base_scope.specs.Limits.{FILE_LIMIT, BLOCK_LIMIT, BLOCK_ROW, BLOCK_TABLE};
-ghost use Rattle.blocks_lines.specs.Keys.{KEYS, repeats, isKeyLine};
-ghost use Rattle.blocks_file.specs.Blocks.{skip, groupEnd, faultyGroup};
-ghost use Rattle.blocks_file.specs.Table.{groups, groupIn, badLine, Reading};
+ghost use Rattle.blocks_lines.specs.Keys.{KEYS};
+ghost use Rattle.blocks_file.specs.Blocks.{skip};
+ghost use Rattle.blocks_file.specs.Table.{groupAfter, groupIn, badLine, Grouped, Reading};
 use base_fields::ByteOrder;
 use base_scope::Finding;
 
@@ -20,69 +19,57 @@ fn skip_lines(file: &[u8], k: u32, at: usize) -> usize
 {
     let mut p = at;
     while p < file.len() {
-        if blocks_lines::is_key_line(file, k, p) {
-            p = blocks_lines::line_end(file, p) + 1;
-        } else {
+        let next = blocks_lines::line_after(file, k, p);
+        if next == 0 {
             return p;
         }
+        p = next;
     }
     p
 }
 
-// Where the group after group k starts, which stands at `at`.
-fn group_end(file: &[u8], k: u32, at: usize) -> usize
-    requires { ⌜ (k < KEYS) × (at ≤ length (now file) + KEYS) × (length (now file) ≤ FILE_LIMIT) ⌝ }
-    ensures { λ r. ⌜ r ≡ groupEnd (now (file .entry)) k at ⌝ }
+// Where the group after group k starts, which stands at `at`; 0 where that must be one line and is not.
+fn group_after(file: &[u8], k: u32, at: usize) -> usize
+    requires { ⌜ k < KEYS ⌝ }
+    ensures { λ r. ⌜ r ≡ groupAfter (now (file .entry)) k at ⌝ }
 {
     if blocks_lines::is_repeated(k) {
         return skip_lines(file, k, at);
     }
-    blocks_lines::line_end(file, at) + 1
+    blocks_lines::line_after(file, k, at)
 }
 
-// The twelve starts of the block at `at`.
-fn read_groups(file: &[u8], at: usize) -> [u32; 12]
+// Where the groups of a block start, up to the first that is faulty, and which that is: GROUPS where none is.
+struct BlockStarts {
+    starts: [u32; 12],
+    faulty: usize,
+}
+
+// The starts of the block at `at`.
+fn read_groups(file: &[u8], at: usize) -> BlockStarts
     requires { ⌜ (at ≤ length (now file)) × (length (now file) ≤ FILE_LIMIT) ⌝ }
-    ensures { λ r. ⌜ r ≡ groups (now (file .entry)) at ⌝ }
+    ensures { λ r. ⌜ Grouped (now (file .entry)) at r ⌝ }
 {
     let mut starts = [0u32; 12];
     let mut p = at;
     let mut k: u32 = 0;
     while k < blocks_lines::KEYS {
         starts[k as usize] = p as u32;
-        p = group_end(file, k, p);
+        let next = group_after(file, k, p);
+        if next == 0 {
+            return BlockStarts {
+                starts,
+                faulty: k as usize,
+            };
+        }
+        p = next;
         k += 1;
     }
     starts[GROUPS] = p as u32;
-    starts
-}
-
-// Whether group k, which stands at `at`, must be one line and is not.
-fn is_faulty_at(file: &[u8], k: u32, at: usize) -> bool
-    requires { ⌜ k < KEYS ⌝ }
-    ensures { λ r. ⌜ r ≡ (not (repeats k) && not (isKeyLine (now (file .entry)) k at)) ⌝ }
-{
-    if blocks_lines::is_repeated(k) {
-        return false;
+    BlockStarts {
+        starts,
+        faulty: GROUPS,
     }
-    !blocks_lines::is_key_line(file, k, at)
-}
-
-// The first group of the block at `at` that is faulty, or GROUPS.
-fn faulty_group(file: &[u8], at: usize) -> usize
-    requires { ⌜ (at ≤ length (now file)) × (length (now file) ≤ FILE_LIMIT) ⌝ }
-    ensures { λ r. ⌜ r ≡ faultyGroup (now (file .entry)) at ⌝ }
-{
-    let mut p = at;
-    let mut k: u32 = 0;
-    while k < blocks_lines::KEYS {
-        if is_faulty_at(file, k, p) {
-            return k as usize;
-        }
-        p = group_end(file, k, p);
-        k += 1;
-    }
-    GROUPS
 }
 
 // What a block file was found to be: its fault, if any, and how many blocks stand before it.
@@ -113,8 +100,9 @@ pub fn read_blocks(file: &[u8], table: &mut [u8]) -> BlockFile
         if i == base_scope::BLOCK_LIMIT {
             return bad_line(file, at, i);
         }
-        let starts = read_groups(file, at);
-        let k = faulty_group(file, at);
+        let read = read_groups(file, at);
+        let starts = read.starts;
+        let k = read.faulty;
         if k < GROUPS {
             return bad_line(file, starts[k] as usize, i);
         }

@@ -1,11 +1,15 @@
 // The lines of a block file: where they end, what their keys are and which value may stand behind each. Every function equals its definition in specs/.
 ghost use mathlib.Core.Path.{_≡_};
 ghost use mathlib.Core.Bool.{true, false, _&&_};
-ghost use Prim.Native.Nat.{_+_, _≤_, _<_};
+ghost use Prim.Native.Nat.{_+_, _/_, _≤_, _<_};
 ghost use lib.ListN.{length, take, drop};
+ghost use lib.Count.{trailingZeros};
 ghost use Rattle.base_lists.specs.Strings.{prefixed};
 ghost use Rattle.blocks_lines.specs.Lines.{lineEnd, line, lineNumber};
+ghost use Rattle.blocks_lines.specs.Words.{wordAt, feedMarks};
 ghost use Rattle.blocks_lines.specs.Keys.{KEYS, keyName, repeats, valueSound, isKeyLine, valueAt};
+ghost use Rattle.blocks_lines.specs.After.{lineAfter};
+use base_fields::ByteOrder;
 
 // How many keys there are, and which are those behind the sections' (whose indices are the section codes).
 pub const KEYS: u32 = 11;
@@ -20,38 +24,42 @@ pub const KEY_ASM: u32 = 8;
 
 pub const KEY_LATE: u32 = 9;
 
-// Whether one of the 16 bytes at `at` is an LF: where none is, the line at `at` ends where the line behind them does. All 16 are looked at, so that the compiler
-// compares them at once.
-fn has_feed(file: &[u8], at: usize) -> bool
-    requires { ⌜ at + 16 ≤ length (now file) ⌝ }
-    ensures { λ r. ⌜ (r ≡ false → lineEnd (now (file .entry)) at ≡ lineEnd (now (file .entry)) (at + 16)) ⌝ }
+// The eight bytes at `at` as a number; the compiler makes one read of it.
+fn word_at(file: &[u8], at: usize) -> u64
+    requires { ⌜ at + 8 ≤ length (now file) ⌝ }
+    ensures { λ r. ⌜ r ≡ wordAt (now (file .entry)) at 8 ⌝ }
 {
-    let mut hit = false;
-    let mut i: usize = 0;
-    while i < 16 {
-        if file[at + i] == 10 {
-            hit = true;
-            i += 1;
-        } else {
-            i += 1;
-        }
-    }
-    hit
+    let low = base_fields::read32(ByteOrder::Little, file, at);
+    let high = base_fields::read32(ByteOrder::Little, file, at + 4);
+    high as u64 * 4294967296 + low as u64
 }
 
-// The line at `at` passed over 16 bytes at a time, as long as no LF is among them: less than 16 bytes of it are left.
-fn near_feed(file: &[u8], at: usize) -> usize
-    ensures { λ r. ⌜ lineEnd (now (file .entry)) at ≡ lineEnd (now (file .entry)) r ⌝ }
+// A mark in each byte of a word that is an LF.
+fn feed_marks(word: u64) -> u64
+    ensures { λ r. ⌜ r ≡ feedMarks 8 word ⌝ }
+{
+    let x = word ^ 0x0a0a0a0a0a0a0a0a;
+    let sum = (x & 0x7f7f7f7f7f7f7f7f) + 0x7f7f7f7f7f7f7f7f;
+    ((sum | x) ^ 0xffffffffffffffff) & 0x8080808080808080
+}
+
+// Which byte of a word has the lowest mark; the word has one.
+fn first_mark(marks: u64) -> usize
+    ensures { λ r. ⌜ r ≡ trailingZeros 64 marks / 8 ⌝ }
+{
+    (u64::trailing_zeros(marks) / 8) as usize
+}
+
+// Where the line at `at` ends, byte by byte.
+fn end_by_bytes(file: &[u8], at: usize) -> usize
+    ensures { λ r. ⌜ r ≡ lineEnd (now (file .entry)) at ⌝ }
 {
     let mut i = at;
     while i < file.len() {
-        if file.len() - i < 16 {
+        if file[i] == 10 {
             return i;
         }
-        if has_feed(file, i) {
-            return i;
-        }
-        i += 16;
+        i += 1;
     }
     i
 }
@@ -60,12 +68,16 @@ fn near_feed(file: &[u8], at: usize) -> usize
 pub fn line_end(file: &[u8], at: usize) -> usize
     ensures { λ r. ⌜ r ≡ lineEnd (now (file .entry)) at ⌝ }
 {
-    let mut i = near_feed(file, at);
+    let mut i = at;
     while i < file.len() {
-        if file[i] == 10 {
-            return i;
+        if file.len() - i < 8 {
+            return end_by_bytes(file, i);
         }
-        i += 1;
+        let marks = feed_marks(word_at(file, i));
+        if marks != 0 {
+            return i + first_mark(marks);
+        }
+        i += 8;
     }
     i
 }
@@ -177,16 +189,26 @@ fn is_key_sound(k: u32, line: &[u8]) -> bool
     false
 }
 
+// Where the line behind the one at `at` starts, if a whole line with key k and a sound value stands there; else 0.
+pub fn line_after(file: &[u8], k: u32, at: usize) -> usize
+    requires { ⌜ k < KEYS ⌝ }
+    ensures { λ r. ⌜ r ≡ lineAfter (now (file .entry)) k at ⌝ }
+{
+    let e = line_end(file, at);
+    if e < file.len() {
+        if is_key_sound(k, &file[at..e]) {
+            return e + 1;
+        }
+    }
+    0
+}
+
 // Whether a whole line with key k and a sound value stands at `at`.
 pub fn is_key_line(file: &[u8], k: u32, at: usize) -> bool
     requires { ⌜ k < KEYS ⌝ }
     ensures { λ r. ⌜ r ≡ isKeyLine (now (file .entry)) k at ⌝ }
 {
-    let e = line_end(file, at);
-    if e < file.len() {
-        return is_key_sound(k, &file[at..e]);
-    }
-    false
+    0 < line_after(file, k, at)
 }
 
 // What stands behind key k in the line at `at`, as a part of the block file.

@@ -81,12 +81,6 @@ module _ (B : List ℕ) (k : ℕ) where
   value-short a u t =
       omega (arith, length-lined (valueAt B k a), key-line-long a t, line-length B a (omega (arith, key-line-inside a t)), end-low B a, key-four k u)
 
-  -- a value and its LF are no longer than what is left of the file
-  pub value-fits : (a : ℕ) → k < KEYS → isKeyLine B k a ≡ true → length (valueAt B k a) + 1 + a ≤ length B
-  value-fits a u t =
-      let i : next B a ≤ length B = next-high B a (key-line-whole B k a t) in
-      omega (arith, i, value-short a u t, length-lined (valueAt B k a))
-
   from-more : (m a : ℕ) → length B ≤ a + m → linesFrom B k a (suc m) ≡ linesFrom B k a m
   unfolding linesFrom
   from-more zero a h = by-test (isKeyLine B k a)

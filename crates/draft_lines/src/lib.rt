@@ -1,13 +1,13 @@
 // The lines of a draft, each appended to the output at a place that is a 64-bit number: a text that no longer fits is counted and not written.
 // Every function says `Written` of the text in specs/Lines.antt that it appends. Each asks only that its text ends below 2 ^ 64, so that no sum wraps.
 ghost use mathlib.Core.Path.{_≡_};
-ghost use mathlib.Core.Bool.{true};
 ghost use Prim.Native.Nat.{_+_, _*_, _≤_, _<_};
 ghost use lib.ListN.{length};
 ghost use Rattle.base_scope.specs.Text.{text};
 ghost use Rattle.base_scope.specs.Codes.{LINES};
 ghost use Rattle.base_text.specs.Lines.{lined};
-ghost use Rattle.blocks_lines.specs.Keys.{KEYS, valueAt, isKeyLine};
+ghost use Rattle.blocks_lines.specs.Keys.{KEYS};
+ghost use Rattle.blocks_file.specs.Blocks.{skip};
 ghost use Rattle.draft_lines.specs.Lines.{sectionLine, nopLines, spaceLine, labelLine, groupLines};
 ghost use Rattle.base_lists.specs.Written.{Written};
 
@@ -70,24 +70,18 @@ pub fn append_label(out: &mut [u8], at: u64, label: &[u8], suffix: &[u8]) -> u64
     base_text::append_line(out, b, suffix)
 }
 
-// Appends the value of the line of key k at `from`, as a line.
-fn append_value(out: &mut [u8], at: u64, file: &[u8], k: u32, from: usize) -> u64
-    requires { ⌜ (at + length (now file) < 18446744073709551616 + from) × (k < KEYS) × (isKeyLine (now file) k from ≡ true) ⌝ }
-    ensures { λ r. ⌜ Written (now (out .entry)) at (lined (valueAt (now (file .entry)) k from)) r (now (out .exit)) ⌝ }
-{
-    base_text::append_line(out, at, blocks_lines::value_at(file, k, from))
-}
-
-// Appends the values of the lines of key k that stand at `from` of a block file, each as a line.
-pub fn append_group(out: &mut [u8], at: u64, file: &[u8], k: u32, from: usize) -> u64
-    requires { ⌜ (at + length (now file) < 18446744073709551616) × (k < KEYS) × (from ≤ length (now file)) ⌝ }
+// Appends the values of the lines of key k that stand at `from` of a block file up to `to`, each as a line. None is tested again.
+pub fn append_group(out: &mut [u8], at: u64, file: &[u8], k: u32, from: usize, to: usize) -> u64
+    requires { ⌜ (at + length (now file) < 18446744073709551616) × (k < KEYS) × (from ≤ length (now file)) × (to ≡ skip (now file) k from) ⌝ }
     ensures { λ r. ⌜ Written (now (out .entry)) at (groupLines (now (file .entry)) k from) r (now (out .exit)) ⌝ }
 {
+    let n = blocks_lines::key_length(k);
     let mut end = at;
     let mut i = from;
-    while blocks_lines::is_key_line(file, k, i) {
-        end = append_value(out, end, file, k, i);
-        i = blocks_lines::line_end(file, i) + 1;
+    while i < to {
+        let next = blocks_lines::line_end(file, i) + 1;
+        end = base_text::append(out, end, &file[i + n..next]);
+        i = next;
     }
     end
 }

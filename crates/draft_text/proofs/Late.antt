@@ -1,5 +1,4 @@
--- The laws of the late part: when a block has late lines, what a turn of each loop over the blocks adds or finds, and how far the late lines reach.
--- A block's late lines are shorter than the block file, so each block moves the end by at most the limit of a file. Assumes nothing.
+-- The laws of the late part: when a block has late lines, and what a turn of each loop over the blocks adds or finds. Assumes nothing.
 use Prim.Native.Nat.{ℕ, _+_, _≤_, _<_}
 use mathlib.Core.Path.{_≡_, sym, _∙_}
 use mathlib.Core.Bool.{true, false}
@@ -12,15 +11,12 @@ use Rattle.base_lists.proofs.Ranges.{first-here, first-end, gather-zero, gather
 use Rattle.base_lists.specs.Written.{Written}
 use Rattle.base_lists.proofs.Written.{written-none, written-then, written-as}
 use Rattle.base_scope.specs.Text.{text}
-use Rattle.base_scope.specs.Limits.{FILE_LIMIT}
 use Rattle.base_text.specs.Lines.{lined}
 use Rattle.base_text.proofs.Lines.{length-lined}
 use Rattle.blocks_lines.specs.Keys.{KEY-LATE, isKeyLine}
 use Rattle.blocks_file.specs.Blocks.{groupAt, blockAt, blockCount}
-use Rattle.blocks_file.proofs.Blocks.{counted-group}
 use Rattle.blocks_places.specs.Places.{Place, live}
 use Rattle.draft_lines.specs.Lines.{groupLines}
-use Rattle.draft_lines.proofs.Lines.{group-lines-short}
 use Rattle.draft_text.specs.Draft.{lateText, lateLines, lateAt, hasLate, latePart}
 
 module _ (P : List Place) (B : List ℕ) where
@@ -56,11 +52,10 @@ module _ (P : List Place) (B : List ℕ) where
 
   -- a turn of the loop: the lines of a block that stays on come behind those before, and a block that is switched off adds none
   module _ (out : List ℕ) (at i r : ℕ) (p : List ℕ) (w : Written out at (gather (live P B) (lateText B) i) r p) where
-    pub late-turn : (a q : ℕ) (u : List ℕ) → live P B i ≡ true → a ≡ groupAt B (blockAt B i) KEY-LATE → Written p r (groupLines B KEY-LATE a) q u
+    pub late-turn : (q : ℕ) (u : List ℕ) → live P B i ≡ true → Written p r (groupLines B KEY-LATE (groupAt B (blockAt B i) KEY-LATE)) q u
         → Written out at (gather (live P B) (lateText B) (i + 1)) q u
     unfolding lateText
-    late-turn a q u t e v =
-        written-as _ _ _ _ _ _ (sym (gather-yes (live P B) (lateText B) i t)) (written-then _ _ _ _ _ _ _ _ w (rw e at v))
+    late-turn q u t v = written-as _ _ _ _ _ _ (sym (gather-yes (live P B) (lateText B) i t)) (written-then _ _ _ _ _ _ _ _ w v)
 
     pub late-pass : live P B i ≡ false → Written out at (gather (live P B) (lateText B) (i + 1)) r p
     late-pass f = written-as _ _ _ _ _ _ (sym (gather-no (live P B) (lateText B) i f)) w
@@ -92,14 +87,6 @@ module _ (P : List Place) (B : List ℕ) where
       (written-then _ _ _ _ _ _ _ _ second-line
       (written-then _ _ _ _ _ _ _ _ third-line
       (written-then _ _ _ _ _ _ _ _ lines last-line))))
-
--- where the lines of a block start, and how far they reach
-pub late-from : (B : List ℕ) (i a : ℕ) → i < blockCount B → a ≡ groupAt B (blockAt B i) KEY-LATE → a ≤ length B
-late-from B i a h e = rw e (counted-group B i KEY-LATE h (omega arith))
-
-pub late-grows : (B : List ℕ) (i a r : ℕ) (p : List ℕ) (q : ℕ) (u : List ℕ) → length B ≤ FILE_LIMIT → i < blockCount B → a ≡ groupAt B (blockAt B i) KEY-LATE
-    → Written p r (groupLines B KEY-LATE a) q u → q ≤ r + FILE_LIMIT
-late-grows B i a r p q u s h e v = omega (arith, v .end, group-lines-short B KEY-LATE a (omega arith) (late-from B i a h e))
 
 -- a line's end: its bytes and one more behind its start
 pub line-ends : (o : List ℕ) (at : ℕ) (s : List ℕ) (r : ℕ) (p : List ℕ) → Written o at (lined s) r p → r ≡ at + length s + 1

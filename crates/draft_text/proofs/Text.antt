@@ -1,6 +1,6 @@
 -- Which text a line adds, in each case that the code tells apart, and how long it can be. Assumes nothing.
 use Prim.Native.Nat.{ℕ, _+_, _-_, _*_, _/_, _≤_, _<_}
-use mathlib.Core.Path.{_≡_, refl, sym}
+use mathlib.Core.Path.{_≡_, refl, sym, ap, _∙_}
 use mathlib.Core.Bool.{true, false, _&&_, and-false}
 use mathlib.Core.List.{List, [], _∷_, _++_, append-assoc, append-nil}
 use native.Mathlib.Omega.{arith}
@@ -14,9 +14,9 @@ use Rattle.base_scope.specs.Codes.{TEXT, LINES, lineCode, lineBlock, firstLine}
 use Rattle.base_text.specs.Lines.{lined}
 use Rattle.blocks_values.specs.Values.{spaceIn, labelIn}
 use Rattle.blocks_lines.specs.Lines.{lineEnd, line}
-use Rattle.blocks_lines.specs.Keys.{KEY-ASM, keyName, valueAt}
-use Rattle.blocks_file.specs.Blocks.{groupAt, blockAt, blockCount}
-use Rattle.blocks_file.proofs.Blocks.{counted-group}
+use Rattle.blocks_lines.specs.Keys.{KEYS, KEY-ASM, keyName, valueAt, repeats}
+use Rattle.blocks_file.specs.Blocks.{skip, groupAt, blockAt, blockCount}
+use Rattle.blocks_file.proofs.Blocks.{group-next, group-end-many, counted-group}
 use Rattle.blocks_places.specs.Lines.{lineCount, spanValue, labelled, spanLabel}
 use Rattle.blocks_places.specs.Places.{Place, live}
 use Rattle.draft_lines.specs.Lines.{sectionLine, nopLines, spaceLine, labelLine, groupLines}
@@ -126,18 +126,21 @@ span-label-short B j =
 
 -- ---- the body of a block, and the whole
 
--- where the lines of a block start, and how far they reach
-module _ (B : List ℕ) (i from : ℕ) (h : i < blockCount B) (e : from ≡ groupAt B (blockAt B i) KEY-ASM) where
-  pub asm-from : from ≤ length B
-  asm-from = rw e (counted-group B i KEY-ASM h (omega arith))
+-- where group k of a block starts and where it ends, as the table has them, and how far its lines reach
+module _ (B : List ℕ) (i k from to : ℕ) (h : i < blockCount B) (l : k < KEYS) (e : from ≡ groupAt B (blockAt B i) k) where
+  pub block-group-from : from ≤ length B
+  block-group-from = rw e (counted-group B i k h (omega arith))
 
-  pub asm-short : length (groupLines B KEY-ASM from) ≤ length B
-  asm-short = omega (arith, group-lines-short B KEY-ASM from (omega arith) asm-from)
+  pub block-group-to : repeats k ≡ true → to ≡ groupAt B (blockAt B i) (k + 1) → to ≡ skip B k from
+  block-group-to t f = f ∙ group-next B (blockAt B i) k ∙ group-end-many B k (groupAt B (blockAt B i) k) t ∙ ap (skip B k) (sym e)
 
-pub body-read : (B : List ℕ) (i from : ℕ) → from ≡ groupAt B (blockAt B i) KEY-ASM
-    → ((labelsText B (text "_asm_start") i ++ lined (text ".text")) ++ groupLines B KEY-ASM from) ++ labelsText B (text "_asm_end") i ≡ bodyText B i
+  pub block-group-short : length (groupLines B k from) ≤ length B
+  block-group-short = omega (arith, group-lines-short B k from l block-group-from)
+
+pub body-read : (B : List ℕ) (i : ℕ)
+    → ((labelsText B (text "_asm_start") i ++ lined (text ".text")) ++ groupLines B KEY-ASM (groupAt B (blockAt B i) KEY-ASM)) ++ labelsText B (text "_asm_end") i ≡ bodyText B i
 unfolding bodyText asmText
-body-read B i from e = rw e (simp append-assoc)
+body-read B i = simp append-assoc
 
 pub draft-read : (P : List Place) (B prelude : List ℕ) (n : ℕ) → n ≡ blockCount B → (lined prelude ++ linesText P B (LINES * n)) ++ latePart P B ≡ draftText P B prelude
 unfolding draftText

@@ -1,16 +1,19 @@
 // The text of a draft, appended piece by piece: the prelude, every block's padding and body, and the late part. Each function says `Written` of the text
 // in specs/Draft.antt that it appends, and by how much the place can grow, so that no sum wraps. The places of the lines are those that the table of places holds.
 ghost use mathlib.Core.Path.{_≡_};
+ghost use mathlib.Core.Bool.{true};
 ghost use Prim.Native.Nat.{_+_, _*_, _^_, _≤_, _<_};
 ghost use lib.ListN.{length};
 ghost use Rattle.base_lists.specs.Written.{Written};
 ghost use Rattle.base_scope.specs.Codes.{LINES, lineCode};
 ghost use Rattle.base_scope.specs.Limits.{FILE_LIMIT, BLOCK_LIMIT, PLACE_ROW};
-ghost use Rattle.blocks_file.specs.Blocks.{blockCount};
+ghost use Rattle.blocks_lines.specs.Keys.{KEYS, repeats};
+ghost use Rattle.blocks_file.specs.Blocks.{groupAt, blockAt, blockCount};
 ghost use Rattle.blocks_file.specs.Table.{Parsed};
 ghost use Rattle.blocks_places.specs.Lines.{lineCount};
 ghost use Rattle.blocks_places.specs.Places.{endAt};
 ghost use Rattle.blocks_places.specs.Table.{placeIn, placesIn, Laid};
+ghost use Rattle.draft_lines.specs.Lines.{groupLines};
 ghost use Rattle.draft_text.specs.Draft.{fillOf, labelText, labelsText, bodyText, lineText, linesText, lateAt, hasLate, lateLines, latePart, draftText};
 ghost use Rattle.draft_text.specs.Pad.{padFrom};
 
@@ -48,15 +51,26 @@ fn append_labels(out: &mut [u8], at: u64, file: &[u8], table: &[u8], suffix: &[u
     next
 }
 
+// Appends the lines of group k of block i, each as a line; the group ends where the next starts.
+fn append_block_group(out: &mut [u8], at: u64, file: &[u8], table: &[u8], i: usize, k: u32) -> u64
+    requires { ⌜ Parsed (now file) (now table) × (i < blockCount (now file)) × (k < KEYS) × (repeats k ≡ true) × (at < 2 ^ 62) ⌝ }
+    ensures { λ r. ⌜ Written (now (out .entry)) at (groupLines (now (file .entry)) k (groupAt (now (file .entry)) (blockAt (now (file .entry)) i) k)) r (now (out .exit))
+        × (r ≤ at + FILE_LIMIT) ⌝ }
+{
+    let group = k as usize;
+    let from = blocks_file::group_start(table, i, group);
+    let to = blocks_file::group_start(table, i, group + 1);
+    draft_lines::append_group(out, at, file, k, from, to)
+}
+
 // Appends what block i adds where it stays on.
 fn append_body(out: &mut [u8], at: u64, file: &[u8], table: &[u8], i: usize) -> u64
     requires { ⌜ Parsed (now file) (now table) × (i < blockCount (now file)) × (at < 2 ^ 60) ⌝ }
     ensures { λ r. ⌜ Written (now (out .entry)) at (bodyText (now (file .entry)) i) r (now (out .exit)) × (r ≤ at + 32 * FILE_LIMIT) ⌝ }
 {
-    let lines = blocks_file::group_start(table, i, blocks_lines::KEY_ASM as usize);
     let started = append_labels(out, at, file, table, b"_asm_start", i);
     let text = base_text::append_line(out, started, b".text");
-    let ended = draft_lines::append_group(out, text, file, blocks_lines::KEY_ASM, lines);
+    let ended = append_block_group(out, text, file, table, i, blocks_lines::KEY_ASM);
     append_labels(out, ended, file, table, b"_asm_end", i)
 }
 
@@ -181,8 +195,7 @@ fn append_late_lines(
     let mut i: usize = 0;
     while i < count {
         if blocks_places::is_live(file, table, places, i) {
-            let from = blocks_file::group_start(table, i, blocks_lines::KEY_LATE as usize);
-            next = draft_lines::append_group(out, next, file, blocks_lines::KEY_LATE, from);
+            next = append_block_group(out, next, file, table, i, blocks_lines::KEY_LATE);
             i += 1;
         } else {
             i += 1;

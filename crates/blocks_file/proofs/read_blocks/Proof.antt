@@ -1,15 +1,15 @@
 -- `blocks_file::read_blocks` meets its contract: after i turns the rows of i blocks stand in the table and block i starts at `at`. A turn ends the loop at
 -- the limit or at a faulty group, where no further block is counted, and else writes one row more. Assumes nothing.
 use Rattle.base_scope.specs.Limits.{BLOCK_LIMIT}
-use Rattle.blocks_file.specs.Blocks.{groupAt}
+use Rattle.blocks_file.specs.Blocks.{groupAt, faultyGroup}
 use Rattle.blocks_file.specs.Table.{badLine, Reading}
-use Rattle.blocks_file.proofs.Blocks.{group-inside}
-use Rattle.blocks_file.proofs.Table.{start-of, Filled, filled-none, filled-end, filled-limit, filled-faulty, filled-next}
+use Rattle.blocks_file.proofs.Blocks.{group-inside, faulty-high}
+use Rattle.blocks_file.proofs.Table.{length-groups, Filled, filled-none, filled-end, filled-limit, filled-faulty, filled-next}
 use borrow.Author.Needs.{needs}
 use native.Mathlib.Omega.{arith}
 use Prim.Native.Nat.{_-_}
-use mathlib.Core.Path.{_≡_}
-use lib.ListN.{getD}
+use mathlib.Core.Path.{_≡_, ap, _∙_}
+use lib.ListN.{length, getD}
 use denote.Ref.{now}
 use Rattle.blocks_file.proofs.read_blocks.Statement.{statement}
 use Rattle.blocks_file.proofs.read_blocks.Tie as tie
@@ -42,9 +42,6 @@ returns c =
 read-groups-requires : tie.Need-read-groups-requires Inv-loop μ-loop
 read-groups-requires c κs = search needs
 
-faulty-group-requires : tie.Need-faulty-group-requires Inv-loop μ-loop
-faulty-group-requires c κs = search needs
-
 mul-bad-line : tie.Need-mul-bad-line Inv-loop μ-loop
 mul-bad-line c = search needs
 
@@ -59,10 +56,10 @@ bad-line-requires-2 c κs =
     let a = c .before .before .before .before .before .before .before .before .args in
     let l = c .before .before .before .before .before .loop in
     let g = c .before .before .read-groups in
-    let f = c .before .faulty-group in
-    let e : getD (g .result) (f .result) 0 ≡ groupAt (now (a .file)) (l .at) (f .result) =
-    start-of (now (a .file)) (l .at) (f .result) (g .result) (g .ensures) (omega arith) in
-    omega (arith, group-inside (now (a .file)) (l .at) (f .result) (omega arith) (omega arith))
+    let k = g .result .faulty in
+    let f : k ≡ faultyGroup (now (a .file)) (l .at) = g .ensures .faulty in
+    let e : getD (g .result .starts) k 0 ≡ groupAt (now (a .file)) (l .at) k = g .ensures .start k (omega arith) in
+    omega (arith, e, group-inside (now (a .file)) (l .at) k (omega arith) (omega arith))
 
 same-length-2 : tie.Need-same-length-2 Inv-loop μ-loop
 same-length-2 c = search needs
@@ -72,12 +69,11 @@ returns-2 c =
     let a = c .before .before .before .before .before .before .before .before .before .args in
     let l = c .before .before .before .before .before .before .loop in
     let g = c .before .before .before .read-groups in
-    let f = c .before .before .faulty-group in
-    let e : getD (g .result) (f .result) 0 ≡ groupAt (now (a .file)) (l .at) (f .result) =
-    start-of (now (a .file)) (l .at) (f .result) (g .result) (g .ensures) (omega arith) in
-    let r : Reading (now (a .file)) (badLine (now (a .file)) (groupAt (now (a .file)) (l .at) (f .result)) (l .i)) (now (a .table)) (l .table) =
-    filled-faulty (now (a .file)) (now (a .table)) (l .i) (l .at) (l .table) (l .inv) (f .result)
-    (f .ensures) (omega arith) (c .before .before .before .before .if1 .left) (c .before .if2 .taken) in
+    let k = g .result .faulty in
+    let f : k ≡ faultyGroup (now (a .file)) (l .at) = g .ensures .faulty in
+    let e : getD (g .result .starts) k 0 ≡ groupAt (now (a .file)) (l .at) k = g .ensures .start k (omega arith) in
+    let r : Reading (now (a .file)) (badLine (now (a .file)) (groupAt (now (a .file)) (l .at) k) (l .i)) (now (a .table)) (l .table) =
+    filled-faulty (now (a .file)) (now (a .table)) (l .i) (l .at) (l .table) (l .inv) k f (omega arith) (c .before .before .before .before .if1 .left) (c .before .if2 .taken) in
     rw (c .bad-line2 .ensures, e) r
 
 mul-write-words : tie.Need-mul-write-words Inv-loop μ-loop
@@ -87,7 +83,15 @@ slice-aggregate-write-words : tie.Need-slice-aggregate-write-words Inv-loop μ-l
 slice-aggregate-write-words c = search needs
 
 write-words-requires : tie.Need-write-words-requires Inv-loop μ-loop
-write-words-requires c κs = search needs
+write-words-requires c κs =
+    let a = c .before .before .before .before .before .before .before .before .before .before .args in
+    let l = c .before .before .before .before .before .before .before .loop in
+    let g = c .before .before .before .before .read-groups in
+    let f : g .result .faulty ≡ faultyGroup (now (a .file)) (l .at) = g .ensures .faulty in
+    let m = c .before .before .if2 .left in
+    let u : faultyGroup (now (a .file)) (l .at) ≡ 11 = omega (arith, faulty-high (now (a .file)) (l .at)) in
+    let n : length (g .result .starts) ≡ 12 = ap length (g .ensures .whole u) ∙ length-groups (now (a .file)) (l .at) in
+    omega (arith, n)
 
 array-read-at : tie.Need-array-read-at Inv-loop μ-loop
 array-read-at c = search needs
@@ -106,13 +110,13 @@ loop-again c =
     let a = c .before .before .before .before .before .before .before .before .before .before .before .before .before .args in
     let l = c .before .before .before .before .before .before .before .before .before .before .loop in
     let g = c .before .before .before .before .before .before .before .read-groups in
-    let f = c .before .before .before .before .before .before .faulty-group in
-    let e : getD (g .result) 11 0 ≡ groupAt (now (a .file)) (l .at) 11 =
-    start-of (now (a .file)) (l .at) 11 (g .result) (g .ensures) (omega arith) in
+    let k = g .result .faulty in
+    let f : k ≡ faultyGroup (now (a .file)) (l .at) = g .ensures .faulty in
     let d = c .before .before .before .before .before .before .before .before .if1 .left in
     let m = c .before .before .before .before .before .if2 .left in
-    let n = filled-next (now (a .file)) (now (a .table)) (l .i) (l .at) (l .table) (l .inv) (f .result) (g .result)
-    (f .ensures) (omega arith) d m (omega arith) (g .ensures) in
+    let u : faultyGroup (now (a .file)) (l .at) ≡ 11 = omega (arith, faulty-high (now (a .file)) (l .at)) in
+    let e : getD (g .result .starts) 11 0 ≡ groupAt (now (a .file)) (l .at) 11 = g .ensures .start 11 (omega arith) in
+    let n = filled-next (now (a .file)) (now (a .table)) (l .i) (l .at) (l .table) (l .inv) k (g .result .starts) f (omega arith) d m (omega arith) (g .ensures .whole u) in
     rw (e, c .before .before .write-words .ensures) n
 
 same-length-3 : tie.Need-same-length-3 Inv-loop μ-loop
@@ -135,7 +139,6 @@ read-blocks-spec =
     same-length
     returns
     read-groups-requires
-    faulty-group-requires
     mul-bad-line
     array-read-bad-line
     cast-bad-line

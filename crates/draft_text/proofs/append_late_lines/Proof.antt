@@ -3,14 +3,14 @@ use lib.Dec.{lit≤}
 use Rattle.base_lists.specs.Ranges.{gather}
 use Rattle.base_lists.specs.Written.{Written}
 use Rattle.base_scope.specs.Limits.{FILE_LIMIT, BLOCK_LIMIT}
+use Rattle.blocks_lines.proofs.Keys.{repeats-late}
 use Rattle.blocks_file.specs.Blocks.{blockCount}
 use Rattle.blocks_file.proofs.Blocks.{count-high}
-use Rattle.blocks_file.proofs.Table.{group-in, parsed-inside}
 use Rattle.blocks_places.specs.Lines.{lineCount}
 use Rattle.blocks_places.specs.Places.{live}
 use Rattle.blocks_places.specs.Table.{placesIn}
 use Rattle.draft_text.specs.Draft.{lateText}
-use Rattle.draft_text.proofs.Late.{late-start, late-turn, late-pass, late-done, late-from, late-grows}
+use Rattle.draft_text.proofs.Late.{late-start, late-turn, late-pass, late-done}
 use borrow.Author.Needs.{needs}
 use native.Mathlib.Omega.{arith}
 use Prim.Native.Nat.{_+_, _-_, _*_, _≤_, _<_}
@@ -34,27 +34,13 @@ loop-holds c =
 is-live-requires : tie.Need-is-live-requires Inv-loop μ-loop
 is-live-requires c κs = search needs
 
-cast-group-start : tie.Need-cast-group-start Inv-loop μ-loop
-cast-group-start c = search needs
-
-group-start-requires : tie.Need-group-start-requires Inv-loop μ-loop
-group-start-requires c κs =
-    let a = c .before .before .before .before .before .before .before .before .args in
-    let p = c .before .before .before .before .before .before .before .before .pre in
-    let l = c .before .before .before .loop in
-    let u : l .i < blockCount (now (a .file)) = omega (arith, p .1, c .before .before .loop-test .taken) in
-    let q = parsed-inside (now (a .file)) (now (a .table)) (p .0 .parsed) (l .i) u in
-    (q .0, q .1, lit≤ tt)
-
-append-group-requires : tie.Need-append-group-requires Inv-loop μ-loop
-append-group-requires c κs =
-    let a = c .before .before .before .before .before .before .before .before .before .before .args in
-    let p = c .before .before .before .before .before .before .before .before .before .before .pre in
-    let l = c .before .before .before .before .before .loop in
-    let u : l .i < blockCount (now (a .file)) = omega (arith, p .1, c .before .before .before .before .loop-test .taken) in
-    let n : blockCount (now (a .file)) ≤ BLOCK_LIMIT = count-high (now (a .file)) in
-    let e = c .before .group-start .ensures .0 ∙ group-in (now (a .file)) (now (a .table)) (p .0 .parsed) (l .i) _ u (lit≤ tt) in
-    (omega (arith, p .0 .parsed .small, p .2, l .inv .1, u, n), lit≤ tt, late-from (now (a .file)) (l .i) (c .before .group-start .result) u e)
+append-block-group-requires : tie.Need-append-block-group-requires Inv-loop μ-loop
+append-block-group-requires c κs =
+    let a = c .before .before .before .before .before .before .before .before .before .args in
+    let p = c .before .before .before .before .before .before .before .before .before .pre in
+    let l = c .before .before .before .before .loop in
+    let u : l .i < blockCount (now (a .file)) = omega (arith, p .1, c .before .before .before .loop-test .taken) in
+    (p .0 .parsed, u, lit≤ tt, repeats-late 9 (lit≤ tt) (lit≤ tt), omega (arith, p .2, l .inv .1, u, count-high (now (a .file))))
 
 add-i : tie.Need-add-i Inv-loop μ-loop
 add-i c = search needs
@@ -64,18 +50,15 @@ loop-less c = search needs
 
 loop-again : tie.Need-loop-again Inv-loop μ-loop
 loop-again c =
-    let a = c .before .before .before .before .before .before .before .before .before .before .before .before .before .args in
-    let p = c .before .before .before .before .before .before .before .before .before .before .before .before .before .pre in
-    let l = c .before .before .before .before .before .before .before .before .loop in
-    let s = c .before .before .before .before .group-start in
-    let g = c .before .before .append-group in
-    let u : l .i < blockCount (now (a .file)) = omega (arith, p .1, c .before .before .before .before .before .before .before .loop-test .taken) in
-    let e = s .ensures .0 ∙ group-in (now (a .file)) (now (a .table)) (p .0 .parsed) (l .i) _ u (lit≤ tt) in
-    let t = sym (c .before .before .before .before .before .before .is-live .ensures) ∙ c .before .before .before .before .before .if1 .taken in
-    let q : g .result ≤ l .next + FILE_LIMIT = late-grows (now (a .file)) (l .i) (s .result) (l .next) (l .out) (g .result) (g .last .0) (p .0 .parsed .small) u e (g .ensures) in (
+    let a = c .before .before .before .before .before .before .before .before .before .before .before .before .args in
+    let p = c .before .before .before .before .before .before .before .before .before .before .before .before .pre in
+    let l = c .before .before .before .before .before .before .before .loop in
+    let g = c .before .before .append-block-group in
+    let u : l .i < blockCount (now (a .file)) = omega (arith, p .1, c .before .before .before .before .before .before .loop-test .taken) in
+    let t = sym (c .before .before .before .before .before .is-live .ensures) ∙ c .before .before .before .before .if1 .taken in (
       omega (arith, p .1, u),
-      omega (arith, q, l .inv .1),
-      late-turn _ (now (a .file)) (now (a .out)) (a .at) (l .i) (l .next) (l .out) (l .inv .2) (s .result) (g .result) (g .last .0) t e (g .ensures),
+      omega (arith, g .ensures .1, l .inv .1),
+      late-turn _ (now (a .file)) (now (a .out)) (a .at) (l .i) (l .next) (l .out) (l .inv .2) (g .result) (g .last .0) t (g .ensures .0),
     )
 
 add-i-2 : tie.Need-add-i-2 Inv-loop μ-loop
@@ -111,9 +94,7 @@ append-late-lines-spec =
     μ-loop
     loop-holds
     is-live-requires
-    cast-group-start
-    group-start-requires
-    append-group-requires
+    append-block-group-requires
     add-i
     loop-less
     loop-again
