@@ -144,7 +144,7 @@ module _ (o : ByteOrder) (B R : List ℕ) (i last count : ℕ) (before : List �
         let e : soundItems o B R i last count ≡ k = w .sound ∙ first-here (faultFrom o B R i last) k count h (fault-here ∙ t) in
         (spot-stop o B R i last count k e h, words-of e)
 
-    -- its word is written
+    -- its place is written
     module _ (p : ℕ) (f : itemFault o B R i here k ≡ false) (is : p ≡ itemPlace o B R i here k) (dummies : count ≡ dummyCount B i) where
       pub placing-fits : p + 4 ≤ length R
       placing-fits =

@@ -99,7 +99,7 @@ module _ (o : ByteOrder) (P : List Place) (B R : List ℕ) (s : ℕ) (late : Lis
   pub field-last : (i : ℕ) → i ≤ blockCount B → lateField late 2 i ≡ lateFrom o P B R i
   field-last i h = field-at 2 i (omega arith) h
 
-  -- the word of a dummy is its place
+  -- what is read of a dummy is its place
   pub word-place : (i k : ℕ) → i < blockCount B → k < liveDummies P B i → lateWord late (dummyIndex P B i + k) ≡ movePlace o P B R i k
   unfolding lateWord
   word-place i k h l =

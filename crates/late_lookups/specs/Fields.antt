@@ -71,7 +71,7 @@ module _ (late : List ℕ) where
   unfoldable pub jumpAt : ℕ → ℕ → Bool
   jumpAt n x = ltb (rowPast LAST n x) n && isTableWord (rowPast LAST n x) x
 
--- the row of block i and the one behind it: the fields ascend, the words are there, and the numbers fit
+-- the row of block i and the one behind it: the fields ascend, the places are there, and the numbers fit
 pub record AtRow (late : List ℕ) (i : ℕ) : Type 0 where
   pub few : i < BLOCK_LIMIT
   pub long : LATE_ROW * (i + 1) + LATE_ROW ≤ length late

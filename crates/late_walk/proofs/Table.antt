@@ -1,4 +1,4 @@
--- The laws of the table of the late step: its rows have 12 bytes each and its words 3, rows and words are written beside each other, and each is read back
+-- The laws of the table of the late step: its rows have 12 bytes each and its places 3, rows and places are written beside each other, and each is read back
 -- from a table in hand. Assumes nothing.
 use Prim.Native.Nat.{ℕ, zero, suc, _+_, _*_, _≤_, _<_}
 use mathlib.Core.Path.{_≡_, refl, ap, _∙_}
@@ -60,7 +60,7 @@ module _ (o : ByteOrder) (P : List Place) (B R : List ℕ) (s : ℕ) where
   unfolding rowTable
   within-row i n h = within-gather (λ i. true) rowAt i n (LATE_ROW * i) (length-rows i) h refl
 
--- ---- words
+-- ---- places
 
 module _ (P : List Place) (B : List ℕ) where
   pub index-zero : dummyIndex P B 0 ≡ 0
@@ -107,7 +107,7 @@ module _ (o : ByteOrder) (P : List Place) (B R : List ℕ) where
   pub block-room : (i : ℕ) → length (blockWords o P B R i) ≤ 3 * liveDummies P B i
   block-room i = omega (arith, length-block i, words-few i)
 
-  -- a block with no item at fault has a word for each dummy
+  -- a block with no item at fault has a place for each dummy
   dummy-item : (i k : ℕ) → k < liveDummies P B i → k < items P B i
   unfolding liveDummies
   dummy-item i k h = by-test (live P B i)
@@ -137,7 +137,7 @@ module _ (o : ByteOrder) (P : List Place) (B R : List ℕ) where
   unfolding placeFrom movePlace lastPlace
   same-place i k = refl
 
-  -- where nothing is at fault: the words of block i stand behind those of the blocks before it, and the place of dummy k is word k of them
+  -- where nothing is at fault: the places of block i stand behind those of the blocks before it, and that of dummy k is the k-th of them
   module _ (e : lateStepFault o P B R ≡ blockCount B) (i : ℕ) (h : i < blockCount B) where
     pub within-block : Within (blockWords o P B R i) (3 * dummyIndex P B i) (wordTable o P B R (blockCount B))
     unfolding wordTable
@@ -180,7 +180,7 @@ module _ (o : ByteOrder) (P : List Place) (B R : List ℕ) (s : ℕ) (before : L
       ∙ ap (λ (x : List ℕ). spliced x LATE_WORDS (wordTable o P B R i))
       (spliced-then before 0 t (rowAt o P B R s i) (LATE_ROW * i) (omega (arith, n)) (omega (arith, r)) ∙ rw (← rows-next o P B R s i))
 
-  -- the words of a block more
+  -- the places of a block more
   pub filled-words : (i n at : ℕ) → n ≤ BLOCK_LIMIT + 1 → at ≡ LATE_WORDS + length (wordTable o P B R i) → at + length (blockWords o P B R i) ≤ length before
       → spliced (filled o P B R s before n i) at (blockWords o P B R i) ≡ filled o P B R s before n (i + 1)
   unfolding filled

@@ -1,4 +1,4 @@
--- `late_lookups::place_in_row` meets its contract: the word of a dummy lies in the table, and an offset behind the dummies is no further from the end than the jump
+-- `late_lookups::place_in_row` meets its contract: the place of a dummy lies in the table, and an offset behind the dummies is no further from the end than the jump
 -- table is long. Assumes nothing.
 use Rattle.late_lookups.proofs.Fields.{word-read, place-word, place-rest, row-words, row-rest}
 use borrow.Author.Needs.{needs}

@@ -1,4 +1,4 @@
--- `late_runs::dummy_place` meets its contract: the words of a block lie in the table. Assumes nothing.
+-- `late_runs::dummy_place` meets its contract: the places of a block lie in the table. Assumes nothing.
 use Rattle.late_lookups.proofs.Fields.{row-words}
 use Rattle.late_runs.proofs.Words.{place-read}
 use borrow.Author.Needs.{needs}
