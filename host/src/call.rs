@@ -18,7 +18,7 @@ pub const BLOCK_BUFFER: usize = 245_760;
 /// The least length of a merge's working buffer `places`.
 pub const PLACE_BUFFER: usize = 81_920;
 /// The least length of a merge's working buffer `steps`.
-pub const STEP_BUFFER: usize = 459_856;
+pub const STEP_BUFFER: usize = 389_951;
 /// The least length of a merge's working buffer `index`.
 pub const INDEX_BUFFER: usize = 114_688;
 

@@ -75,6 +75,11 @@ bytes-1 l o h = rw (drop-next l o 0 (omega arith))
 bytes-2 : (l : List ℕ) (o : ℕ) → o + 2 ≤ length l → take 2 (drop o l) ≡ getD l o 0 ∷ getD l (o + 1) 0 ∷ []
 bytes-2 l o h = rw (drop-next l o 0 (omega arith), drop-next l (o + 1) 0 (omega arith))
 
+bytes-3 : (l : List ℕ) (o : ℕ) → o + 3 ≤ length l → take 3 (drop o l) ≡ getD l o 0 ∷ getD l (o + 1) 0 ∷ getD l (o + 2) 0 ∷ []
+bytes-3 l o h =
+    let a : o + 1 + 1 ≡ o + 2 = omega arith in
+    rw (drop-next l o 0 (omega arith), drop-next l (o + 1) 0 (omega arith), a, drop-next l (o + 2) 0 (omega arith))
+
 bytes-4 : (l : List ℕ) (o : ℕ) → o + 4 ≤ length l → take 4 (drop o l) ≡ getD l o 0 ∷ getD l (o + 1) 0 ∷ getD l (o + 2) 0 ∷ getD l (o + 3) 0 ∷ []
 bytes-4 l o h =
     let a : o + 1 + 1 ≡ o + 2 = omega arith in
@@ -92,7 +97,7 @@ unfolding encoded turned digits
 encoded-byte Big x = rw (div-one x)
 encoded-byte Little x = rw (div-one x)
 
--- the fields of two and four bytes, read in each order
+-- the fields of two, three and four bytes, read in each order
 pub big-2 : (l : List ℕ) (o : ℕ) → o + 2 ≤ length l → number Big 2 l o ≡ getD l o 0 * 256 + getD l (o + 1) 0
 unfolding number turned magnitude
 big-2 l o h = rw (bytes-2 l o h) (omega arith)
@@ -100,6 +105,14 @@ big-2 l o h = rw (bytes-2 l o h) (omega arith)
 pub little-2 : (l : List ℕ) (o : ℕ) → o + 2 ≤ length l → number Little 2 l o ≡ getD l (o + 1) 0 * 256 + getD l o 0
 unfolding number turned magnitude
 little-2 l o h = rw (bytes-2 l o h) (omega arith)
+
+pub big-3 : (l : List ℕ) (o : ℕ) → o + 3 ≤ length l → number Big 3 l o ≡ getD l o 0 * 65536 + getD l (o + 1) 0 * 256 + getD l (o + 2) 0
+unfolding number turned magnitude
+big-3 l o h = rw (bytes-3 l o h) (omega arith)
+
+pub little-3 : (l : List ℕ) (o : ℕ) → o + 3 ≤ length l → number Little 3 l o ≡ getD l (o + 2) 0 * 65536 + getD l (o + 1) 0 * 256 + getD l o 0
+unfolding number turned magnitude
+little-3 l o h = rw (bytes-3 l o h) (omega arith)
 
 pub big-4 : (l : List ℕ) (o : ℕ) → o + 4 ≤ length l
     → number Big 4 l o ≡ getD l o 0 * 16777216 + getD l (o + 1) 0 * 65536 + getD l (o + 2) 0 * 256 + getD l (o + 3) 0
@@ -111,10 +124,17 @@ pub little-4 : (l : List ℕ) (o : ℕ) → o + 4 ≤ length l
 unfolding number turned magnitude
 little-4 l o h = rw (bytes-4 l o h) (omega arith)
 
--- the digits of two and four bytes
+-- the digits of two, three and four bytes
 digits-2 : (x : ℕ) → digits 2 x ≡ x / 256 ∷ x % 256 ∷ []
 unfolding digits
 digits-2 x = rw (div-one (x % 256))
+
+digits-3 : (x : ℕ) → digits 3 x ≡ x / 65536 ∷ x / 256 % 256 ∷ x % 256 ∷ []
+unfolding digits
+digits-3 x =
+    let b : x % 65536 / 256 ≡ x / 256 % 256 = omega arith in
+    let c : x % 65536 % 256 / 1 ≡ x % 256 = omega arith in
+    rw (b, c)
 
 digits-4 : (x : ℕ) → digits 4 x ≡ x / 16777216 ∷ x / 65536 % 256 ∷ x / 256 % 256 ∷ x % 256 ∷ []
 unfolding digits
@@ -131,6 +151,14 @@ encoded-big-2 x = digits-2 x
 pub encoded-little-2 : (x : ℕ) → encoded Little 2 x ≡ x % 256 ∷ x / 256 ∷ []
 unfolding encoded turned
 encoded-little-2 x = rw (digits-2 x)
+
+pub encoded-big-3 : (x : ℕ) → encoded Big 3 x ≡ x / 65536 ∷ x / 256 % 256 ∷ x % 256 ∷ []
+unfolding encoded turned
+encoded-big-3 x = digits-3 x
+
+pub encoded-little-3 : (x : ℕ) → encoded Little 3 x ≡ x % 256 ∷ x / 256 % 256 ∷ x / 65536 ∷ []
+unfolding encoded turned
+encoded-little-3 x = rw (digits-3 x)
 
 pub encoded-big-4 : (x : ℕ) → encoded Big 4 x ≡ x / 16777216 ∷ x / 65536 % 256 ∷ x / 256 % 256 ∷ x % 256 ∷ []
 unfolding encoded turned

@@ -1,4 +1,4 @@
-// Fields of 8, 16 and 32 bits in a byte slice: read and written, in a byte order that is a parameter. Each equals `number` or `encoded` of
+// Fields of 8, 16, 24 and 32 bits in a byte slice: read and written, in a byte order that is a parameter. Each equals `number` or `encoded` of
 // specs/Numbers.antt; a write leaves every byte outside its field as it was.
 ghost use mathlib.Core.Path.{_≡_};
 ghost use mathlib.Core.List.{[], _∷_};
@@ -28,6 +28,13 @@ fn join2(a: u8, b: u8) -> u32
     wide(a) * 256 + wide(b)
 }
 
+// Three bytes, the most significant first.
+fn join3(a: u8, b: u8, c: u8) -> u32
+    ensures { λ r. ⌜ (r ≡ a * 65536 + b * 256 + c) × (r < 16777216) ⌝ }
+{
+    wide(a) * 65536 + wide(b) * 256 + wide(c)
+}
+
 // Four bytes, the most significant first.
 fn join4(a: u8, b: u8, c: u8, d: u8) -> u32
     ensures { λ r. ⌜ r ≡ a * 16777216 + b * 65536 + c * 256 + d ⌝ }
@@ -51,6 +58,17 @@ pub fn read16(order: ByteOrder, s: &[u8], at: usize) -> u32
     match order {
         ByteOrder::Big => join2(s[at], s[at + 1]),
         ByteOrder::Little => join2(s[at + 1], s[at]),
+    }
+}
+
+// The number in the three bytes at `at`.
+pub fn read24(order: ByteOrder, s: &[u8], at: usize) -> u32
+    requires { ⌜ at + 3 ≤ length (now s) ⌝ }
+    ensures { λ r. ⌜ (r ≡ number order 3 (now (s .entry)) at) × (r < 16777216) ⌝ }
+{
+    match order {
+        ByteOrder::Big => join3(s[at], s[at + 1], s[at + 2]),
+        ByteOrder::Little => join3(s[at + 2], s[at + 1], s[at]),
     }
 }
 
@@ -82,6 +100,16 @@ fn store2(s: &mut [u8], at: usize, a: u8, b: u8)
     s[at + 1] = b;
 }
 
+// Stores three bytes in order.
+fn store3(s: &mut [u8], at: usize, a: u8, b: u8, c: u8)
+    requires { ⌜ at + 3 ≤ length (now s) ⌝ }
+    ensures { λ _. ⌜ now (s .exit) ≡ spliced (now (s .entry)) at (a ∷ b ∷ c ∷ []) ⌝ }
+{
+    s[at] = a;
+    s[at + 1] = b;
+    s[at + 2] = c;
+}
+
 // Stores four bytes in order.
 fn store4(s: &mut [u8], at: usize, a: u8, b: u8, c: u8, d: u8)
     requires { ⌜ at + 4 ≤ length (now s) ⌝ }
@@ -103,6 +131,20 @@ pub fn write16(order: ByteOrder, s: &mut [u8], at: usize, x: u32)
     match order {
         ByteOrder::Big => store2(s, at, high, low),
         ByteOrder::Little => store2(s, at, low, high),
+    }
+}
+
+// Writes a number below 2 ^ 24 into the three bytes at `at`.
+pub fn write24(order: ByteOrder, s: &mut [u8], at: usize, x: u32)
+    requires { ⌜ (at + 3 ≤ length (now s)) × (x < 16777216) ⌝ }
+    ensures { λ _. ⌜ now (s .exit) ≡ spliced (now (s .entry)) at (encoded order 3 x) ⌝ }
+{
+    let high = (x / 65536) as u8;
+    let middle = (x / 256 % 256) as u8;
+    let low = (x % 256) as u8;
+    match order {
+        ByteOrder::Big => store3(s, at, high, middle, low),
+        ByteOrder::Little => store3(s, at, low, middle, high),
     }
 }
 

@@ -90,12 +90,12 @@ PLACE_TABLE = PLACE_ROW * (LINES * BLOCK_LIMIT)
 abbrev pub SPAN_TABLE : ℕ
 SPAN_TABLE = SPAN_ROW * BLOCK_LIMIT
 
--- a row for each block and one behind the last; then, from LATE_WORDS on, a word for each dummy
+-- a row for each block and one behind the last; then, from LATE_WORDS on, a place for each dummy, three bytes: a place is below FILE_LIMIT
 abbrev pub LATE_WORDS : ℕ
 LATE_WORDS = LATE_ROW * (BLOCK_LIMIT + 1)
 
 abbrev pub LATE_TABLE : ℕ
-LATE_TABLE = LATE_WORDS + 4 * DUMMY_LIMIT
+LATE_TABLE = LATE_WORDS + 3 * DUMMY_LIMIT
 
 abbrev pub STATIC_TABLE : ℕ
 STATIC_TABLE = STATIC_ROW * STATIC_LIMIT

@@ -53,7 +53,7 @@ pub const SPAN_TABLE: usize = 8192;
 
 pub const LATE_WORDS: usize = 12300;
 
-pub const LATE_TABLE: usize = 291920;
+pub const LATE_TABLE: usize = 222015;
 
 pub const STATIC_TABLE: usize = 98304;
 

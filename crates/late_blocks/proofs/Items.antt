@@ -78,14 +78,14 @@ module _ (R : List ℕ) (count n last : ℕ) where
 module _ (o : ByteOrder) (B R : List ℕ) (i last : ℕ) where
   -- the places of the first k items
   abbrev pub firstWords : ℕ → List ℕ
-  firstWords k = flat (encoded Big 4) (select (λ j. true) (placeFrom o B R i last) k)
+  firstWords k = flat (encoded Big 3) (select (λ j. true) (placeFrom o B R i last) k)
 
-  length-words : (k : ℕ) → length (firstWords k) ≡ 4 * k
+  length-words : (k : ℕ) → length (firstWords k) ≡ 3 * k
   length-words k =
-      length-flat (encoded Big 4) 4 (length-encoded Big 4) (select (λ j. true) (placeFrom o B R i last) k)
-      ∙ ap (λ (n : ℕ). 4 * n) (select-all-length (placeFrom o B R i last) k)
+      length-flat (encoded Big 3) 3 (length-encoded Big 3) (select (λ j. true) (placeFrom o B R i last) k)
+      ∙ ap (λ (n : ℕ). 3 * n) (select-all-length (placeFrom o B R i last) k)
 
-  words-next : (k : ℕ) → firstWords (k + 1) ≡ firstWords k ++ encoded Big 4 (placeFrom o B R i last k)
+  words-next : (k : ℕ) → firstWords (k + 1) ≡ firstWords k ++ encoded Big 3 (placeFrom o B R i last k)
   words-next k = rw (select-yes (λ j. true) (placeFrom o B R i last) k refl, flat-append, flat-one)
 
   pub words-zero : firstWords 0 ≡ []
@@ -144,29 +144,29 @@ module _ (o : ByteOrder) (B R : List ℕ) (i last count : ℕ) (before : List �
         let e : soundItems o B R i last count ≡ k = w .sound ∙ first-here (faultFrom o B R i last) k count h (fault-here ∙ t) in
         (spot-stop o B R i last count k e h, words-of e)
 
-    -- its word is written
+    -- its place is written
     module _ (p : ℕ) (f : itemFault o B R i here k ≡ false) (is : p ≡ itemPlace o B R i here k) (dummies : count ≡ dummyCount B i) where
       pub placing-fits : p + 4 ≤ length R
       placing-fits =
           let l : k < dummyCount B i = omega arith in
           omega (arith, item-fits o B R i here k f (w .inside), length-dummy B i k l)
 
-      pub placing-next : at + 4 * count ≤ length before
-          → PlacingDummies o B R i last count before at (k + 1) (p + 4) (spliced late (at + 4 * k) (encoded Big 4 p))
+      pub placing-next : at + 3 * count ≤ length before
+          → PlacingDummies o B R i last count before at (k + 1) (p + 4) (spliced late (at + 3 * k) (encoded Big 3 p))
       placing-next room =
           let l : k < dummyCount B i = omega arith in
-          let n : 4 * k ≡ length (firstWords o B R i last k) = sym (length-words o B R i last k) in
-          let m : at + 4 * k ≡ at + length (firstWords o B R i last k) = omega arith in
-          let r : at + 4 * k + length (encoded Big 4 p) ≤ length before = omega (arith, length-encoded Big 4 p) in
+          let n : 3 * k ≡ length (firstWords o B R i last k) = sym (length-words o B R i last k) in
+          let m : at + 3 * k ≡ at + length (firstWords o B R i last k) = omega arith in
+          let r : at + 3 * k + length (encoded Big 3 p) ≤ length before = omega (arith, length-encoded Big 3 p) in
           record {
             few = omega arith;
             from = sym (last-from-next o B R i last k ∙ rw (← w .from, ← is, length-dummy B i k l));
             inside = placing-fits;
             sound = w .sound ∙ first-next (faultFrom o B R i last) k count h (fault-here ∙ f);
-            long = length-spliced late (at + 4 * k) (encoded Big 4 p) (rw (w .long) r) ∙ w .long;
+            long = length-spliced late (at + 3 * k) (encoded Big 3 p) (rw (w .long) r) ∙ w .long;
             words =
-                ap (λ (x : List ℕ). spliced x (at + 4 * k) (encoded Big 4 p)) (w .words)
-                ∙ spliced-then before at (firstWords o B R i last k) (encoded Big 4 p) (at + 4 * k) m r
+                ap (λ (x : List ℕ). spliced x (at + 3 * k) (encoded Big 3 p)) (w .words)
+                ∙ spliced-then before at (firstWords o B R i last k) (encoded Big 3 p) (at + 3 * k) m r
                 ∙ ap (spliced before at) (rw (is, ← place-here) (sym (words-next o B R i last k)));
           }
 

@@ -31,9 +31,9 @@ module _ (o : ByteOrder) (B R : List ℕ) (i last : ℕ) where
   unfoldable pub soundItems : ℕ → ℕ
   soundItems n = first faultFrom 0 n
 
-  -- their places, a word each
+  -- their places, three bytes each
   unfoldable pub placeWords : ℕ → List ℕ
-  placeWords n = flat (encoded Big 4) (select (λ k. true) placeFrom (soundItems n))
+  placeWords n = flat (encoded Big 3) (select (λ k. true) placeFrom (soundItems n))
 
   -- the end of the last of them, or refusal 14
   unfoldable pub itemsSpot : ℕ → Spot

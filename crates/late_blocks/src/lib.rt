@@ -43,7 +43,7 @@ fn dummy_spot(
     late_dummies::place_dummy(order, rodata, many, last, word)
 }
 
-// The places of block i's dummies go into the table from `at` on, until one is lost; `last` is the last place before the block.
+// The places of block i's dummies go into the table from `at` on, three bytes each, until one is lost; `last` is the last place before the block.
 fn place_dummies(
     order: ByteOrder,
     rodata: &[u8],
@@ -56,7 +56,7 @@ fn place_dummies(
     at: usize,
 ) -> Spot
     requires { ⌜ Parsed (now file) (now table) × (i < blockCount (now file)) × (count ≡ dummyCount (now file) i) × (last ≤ length (now rodata)) × (length (now rodata) ≤ FILE_LIMIT)
-        × (at + 4 * count ≤ length (now late)) ⌝ }
+        × (at + 3 * count ≤ length (now late)) ⌝ }
     ensures { λ r. ⌜ (r ≡ itemsSpot order (now (file .entry)) (now (rodata .entry)) i last count)
         × (now (late .exit) ≡ spliced (now (late .entry)) at (placeWords order (now (file .entry)) (now (rodata .entry)) i last count)) ⌝ }
 {
@@ -65,7 +65,7 @@ fn place_dummies(
     while k < count {
         match dummy_spot(order, rodata, file, table, i, count, k, here) {
             Spot::At(p) => {
-                base_fields::write32(ByteOrder::Big, late, at + 4 * k, p as u32);
+                base_fields::write24(ByteOrder::Big, late, at + 3 * k, p as u32);
                 here = p + 4;
                 k += 1;
             }
@@ -106,7 +106,7 @@ pub fn place_block(
     at: usize,
 ) -> Spot
     requires { ⌜ Parsed (now file) (now table) × (i < blockCount (now file)) × (count ≡ dummyCount (now file) i) × (last ≤ length (now rodata)) × (length (now rodata) ≤ FILE_LIMIT)
-        × (at + 4 * count ≤ length (now late)) × (bytes ≡ jumpTable (now file) i) ⌝ }
+        × (at + 3 * count ≤ length (now late)) × (bytes ≡ jumpTable (now file) i) ⌝ }
     ensures { λ r. ⌜ (r ≡ itemsSpot order (now (file .entry)) (now (rodata .entry)) i last (count + 1))
         × (now (late .exit) ≡ spliced (now (late .entry)) at (placeWords order (now (file .entry)) (now (rodata .entry)) i last count)) ⌝ }
 {

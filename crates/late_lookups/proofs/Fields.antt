@@ -23,7 +23,7 @@ module _ (late : List ℕ) where
   unfolding lateField
   field-read f i r e = e
 
-  pub word-read : (m r : ℕ) → r ≡ number Big 4 late (LATE_WORDS + 4 * m) → r ≡ lateWord late m
+  pub word-read : (m r : ℕ) → r ≡ number Big 3 late (LATE_WORDS + 3 * m) → r ≡ lateWord late m
   unfolding lateWord
   word-read m r e = e
 
@@ -141,7 +141,7 @@ module _ (late : List ℕ) (n : ℕ) (s : LateRows late n) (f : ℕ) (g : f < 3)
 -- ---- the numbers of a row
 
 module _ (late : List ℕ) (i : ℕ) (s : AtRow late i) where
-  pub row-words : (k : ℕ) → k < rowDummies late i → LATE_WORDS + 4 * (lateField late 1 i + k) + 4 ≤ length late
+  pub row-words : (k : ℕ) → k < rowDummies late i → LATE_WORDS + 3 * (lateField late 1 i + k) + 3 ≤ length late
   unfolding rowDummies
   row-words k l = omega (arith, s .words)
 

@@ -99,16 +99,16 @@ module _ (o : ByteOrder) (P : List Place) (B R : List ℕ) (s : ℕ) (late : Lis
   pub field-last : (i : ℕ) → i ≤ blockCount B → lateField late 2 i ≡ lateFrom o P B R i
   field-last i h = field-at 2 i (omega arith) h
 
-  -- the word of a dummy is its place
+  -- what is read of a dummy is its place
   pub word-place : (i k : ℕ) → i < blockCount B → k < liveDummies P B i → lateWord late (dummyIndex P B i + k) ≡ movePlace o P B R i k
   unfolding lateWord
   word-place i k h l =
-      let e : LATE_WORDS + 4 * dummyIndex P B i + 4 * k ≡ LATE_WORDS + 4 * (dummyIndex P B i + k) = omega arith in
-      within-number Big 3 (movePlace o P B R i k) (LATE_WORDS + 4 * (dummyIndex P B i + k)) late
-      (within-at (encoded Big 4 (movePlace o P B R i k)) late (LATE_WORDS + 4 * dummyIndex P B i + 4 * k) (LATE_WORDS + 4 * (dummyIndex P B i + k)) e
-      (within-within (encoded Big 4 (movePlace o P B R i k)) (blockWords o P B R i) late (LATE_WORDS + 4 * dummyIndex P B i) (4 * k)
+      let e : LATE_WORDS + 3 * dummyIndex P B i + 3 * k ≡ LATE_WORDS + 3 * (dummyIndex P B i + k) = omega arith in
+      within-number Big 2 (movePlace o P B R i k) (LATE_WORDS + 3 * (dummyIndex P B i + k)) late
+      (within-at (encoded Big 3 (movePlace o P B R i k)) late (LATE_WORDS + 3 * dummyIndex P B i + 3 * k) (LATE_WORDS + 3 * (dummyIndex P B i + k)) e
+      (within-within (encoded Big 3 (movePlace o P B R i k)) (blockWords o P B R i) late (LATE_WORDS + 3 * dummyIndex P B i) (3 * k)
       (within-dummy o P B R (m .clear) i h k l)
-      (within-within (blockWords o P B R i) (wordTable o P B R (blockCount B)) late LATE_WORDS (4 * dummyIndex P B i)
+      (within-within (blockWords o P B R i) (wordTable o P B R (blockCount B)) late LATE_WORDS (3 * dummyIndex P B i)
       (within-block o P B R (m .clear) i h) (m .words))))
 
   row-dummies : (i : ℕ) → i < blockCount B → rowDummies late i ≡ liveDummies P B i
@@ -124,7 +124,7 @@ module _ (o : ByteOrder) (P : List Place) (B R : List ℕ) (s : ℕ) (late : Lis
   rows-long =
       omega (arith, within-fits (rowTable o P B R s (blockCount B + 1)) late 0 (m .rows), length-rows o P B R s (blockCount B + 1))
 
-  words-long : LATE_WORDS + 4 * lateField late 1 (blockCount B) ≤ length late
+  words-long : LATE_WORDS + 3 * lateField late 1 (blockCount B) ≤ length late
   words-long =
       rw (field-index (blockCount B) (omega arith)) (omega (
         arith,
@@ -142,7 +142,7 @@ module _ (o : ByteOrder) (P : List Place) (B R : List ℕ) (s : ℕ) (late : Lis
       (λ e. rw (e, field-index i (omega arith), field-index (i + 1) (omega arith)) (index-mono P B i (i + 1) (omega arith))))
       (λ e. rw (e, field-last i (omega arith), field-last (i + 1) (omega arith)) (late-mono o P B R i (i + 1) (omega arith)))
 
-  words-there : (i : ℕ) → i < blockCount B → LATE_WORDS + 4 * lateField late 1 (i + 1) ≤ length late
+  words-there : (i : ℕ) → i < blockCount B → LATE_WORDS + 3 * lateField late 1 (i + 1) ≤ length late
   words-there i h =
       rw (field-index (i + 1) (omega arith))
       (omega (arith, words-long, field-index (blockCount B) (omega arith), index-mono P B (i + 1) (blockCount B) (omega arith)))

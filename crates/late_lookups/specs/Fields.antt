@@ -33,7 +33,7 @@ module _ (late : List ℕ) where
 
   -- the place of dummy m of all
   unfoldable pub lateWord : ℕ → ℕ
-  lateWord m = number Big 4 late (LATE_WORDS + 4 * m)
+  lateWord m = number Big 3 late (LATE_WORDS + 3 * m)
 
   -- how many dummies block i has, and how many bytes its jump table
   unfoldable pub rowDummies : ℕ → ℕ
@@ -71,12 +71,12 @@ module _ (late : List ℕ) where
   unfoldable pub jumpAt : ℕ → ℕ → Bool
   jumpAt n x = ltb (rowPast LAST n x) n && isTableWord (rowPast LAST n x) x
 
--- the row of block i and the one behind it: the fields ascend, the words are there, and the numbers fit
+-- the row of block i and the one behind it: the fields ascend, the places are there, and the numbers fit
 pub record AtRow (late : List ℕ) (i : ℕ) : Type 0 where
   pub few : i < BLOCK_LIMIT
   pub long : LATE_ROW * (i + 1) + LATE_ROW ≤ length late
   pub rises : (f : ℕ) → f < 3 → lateField late f i ≤ lateField late f (i + 1)
-  pub words : LATE_WORDS + 4 * lateField late DUMMIES (i + 1) ≤ length late
+  pub words : LATE_WORDS + 3 * lateField late DUMMIES (i + 1) ≤ length late
   pub parts : lateField late SOURCE i + 4 * rowDummies late i ≤ lateField late SOURCE (i + 1)
   pub tables : rowBytes late i ≤ lateField late LAST (i + 1)
 

@@ -87,7 +87,7 @@ fn place_in_row(late: &[u8], i: usize, x: usize) -> usize
     let count = row_dummies(late, i);
     if k < count {
         let m = field_at(late, DUMMIES, i) + k;
-        return base_fields::read32(ByteOrder::Big, late, base_scope::LATE_WORDS + 4 * m) as usize;
+        return base_fields::read24(ByteOrder::Big, late, base_scope::LATE_WORDS + 3 * m) as usize;
     }
     let rest = field_at(late, SOURCE, i + 1) - x;
     field_at(late, LAST, i + 1) - rest

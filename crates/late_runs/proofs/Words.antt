@@ -21,7 +21,7 @@ use Rattle.late_lookups.proofs.Fields.{word-read}
 use Rattle.late_runs.specs.declared.Run.the-variants.{Kept, Late, Zeros}
 use Rattle.late_runs.specs.Words.{dummyPlace, wordPast, dummyOver, Rising, movedOn, gapTo, wordRun, tableRun, rowRun, runRead}
 
-pub place-read : (late : List ℕ) (i k a r : ℕ) → a ≡ lateField late 1 i → r ≡ number Big 4 late (LATE_WORDS + 4 * (a + k)) → r ≡ dummyPlace late i k
+pub place-read : (late : List ℕ) (i k a r : ℕ) → a ≡ lateField late 1 i → r ≡ number Big 3 late (LATE_WORDS + 3 * (a + k)) → r ≡ dummyPlace late i k
 unfolding dummyPlace
 place-read late i k a r e q = rw (← e) (word-read late (a + k) r q)
 

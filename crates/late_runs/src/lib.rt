@@ -25,7 +25,7 @@ fn dummy_place(late: &[u8], i: usize, k: usize) -> usize
     ensures { λ r. ⌜ (r ≡ dummyPlace (now (late .entry)) i k) × (r < 2 ^ 32) ⌝ }
 {
     let m = late_lookups::field_at(late, late_lookups::DUMMIES, i) + k;
-    base_fields::read32(ByteOrder::Big, late, base_scope::LATE_WORDS + 4 * m) as usize
+    base_fields::read24(ByteOrder::Big, late, base_scope::LATE_WORDS + 3 * m) as usize
 }
 
 // The first dummy of block i, of so many, whose late word ends past x: a binary search.

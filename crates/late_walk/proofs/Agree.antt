@@ -47,7 +47,7 @@ module _ (o : ByteOrder) (P : List Place) (B R S : List ℕ) (long : length R �
   unfolding blockWords placeWords
   block-agree i =
       let n = soundItems o B S i (lateFrom o P B S i) (liveDummies P B i) in
-      rw (sound-same i (liveDummies P B i)) (ap (flat (encoded Big 4))
+      rw (sound-same i (liveDummies P B i)) (ap (flat (encoded Big 3))
       (select-same (λ k. true) (λ k. true) (placeFrom o B R i (lateFrom o P B R i)) (placeFrom o B S i (lateFrom o P B S i)) n (λ k h. refl) (λ k h t. place-same i k)))
 
   words-agree : (n : ℕ) → wordTable o P B R n ≡ wordTable o P B S n

@@ -1,4 +1,4 @@
--- The laws of the table of the late step: its rows have 12 bytes each and its words 4, rows and words are written beside each other, and each is read back
+-- The laws of the table of the late step: its rows have 12 bytes each and its places 3, rows and places are written beside each other, and each is read back
 -- from a table in hand. Assumes nothing.
 use Prim.Native.Nat.{ℕ, zero, suc, _+_, _*_, _≤_, _<_}
 use mathlib.Core.Path.{_≡_, refl, ap, _∙_}
@@ -60,7 +60,7 @@ module _ (o : ByteOrder) (P : List Place) (B R : List ℕ) (s : ℕ) where
   unfolding rowTable
   within-row i n h = within-gather (λ i. true) rowAt i n (LATE_ROW * i) (length-rows i) h refl
 
--- ---- words
+-- ---- places
 
 module _ (P : List Place) (B : List ℕ) where
   pub index-zero : dummyIndex P B 0 ≡ 0
@@ -97,17 +97,17 @@ module _ (o : ByteOrder) (P : List Place) (B R : List ℕ) where
   unfolding soundDummies soundItems
   words-few i = first-high (faultFrom o B R i (lateFrom o P B R i)) 0 (liveDummies P B i) (omega arith)
 
-  length-block : (i : ℕ) → length (blockWords o P B R i) ≡ 4 * soundDummies i
+  length-block : (i : ℕ) → length (blockWords o P B R i) ≡ 3 * soundDummies i
   unfolding blockWords placeWords soundDummies
   length-block i =
       let n = soundItems o B R i (lateFrom o P B R i) (liveDummies P B i) in
-      length-flat (encoded Big 4) 4 (length-encoded Big 4) (select (λ k. true) (placeFrom o B R i (lateFrom o P B R i)) n)
-      ∙ ap (λ (m : ℕ). 4 * m) (select-all-length (placeFrom o B R i (lateFrom o P B R i)) n)
+      length-flat (encoded Big 3) 3 (length-encoded Big 3) (select (λ k. true) (placeFrom o B R i (lateFrom o P B R i)) n)
+      ∙ ap (λ (m : ℕ). 3 * m) (select-all-length (placeFrom o B R i (lateFrom o P B R i)) n)
 
-  pub block-room : (i : ℕ) → length (blockWords o P B R i) ≤ 4 * liveDummies P B i
+  pub block-room : (i : ℕ) → length (blockWords o P B R i) ≤ 3 * liveDummies P B i
   block-room i = omega (arith, length-block i, words-few i)
 
-  -- a block with no item at fault has a word for each dummy
+  -- a block with no item at fault has a place for each dummy
   dummy-item : (i k : ℕ) → k < liveDummies P B i → k < items P B i
   unfolding liveDummies
   dummy-item i k h = by-test (live P B i)
@@ -120,15 +120,15 @@ module _ (o : ByteOrder) (P : List Place) (B R : List ℕ) where
       first-none (faultFrom o B R i (lateFrom o P B R i)) 0 (liveDummies P B i) (omega arith) (λ k l h. sound k (dummy-item i k h))
 
   pub words-full : (i : ℕ) → ((k : ℕ) → k < items P B i → isMoveFault o P B R i k ≡ false)
-      → length (wordTable o P B R i) ≡ 4 * dummyIndex P B i → length (wordTable o P B R (i + 1)) ≡ 4 * dummyIndex P B (i + 1)
+      → length (wordTable o P B R i) ≡ 3 * dummyIndex P B i → length (wordTable o P B R (i + 1)) ≡ 3 * dummyIndex P B (i + 1)
   words-full i sound e =
       rw (words-next i, index-next P B i) (length-joined (wordTable o P B R i) (blockWords o P B R i) (dummyIndex P B i) (liveDummies P B i) e
-      (length-block i ∙ ap (λ (n : ℕ). 4 * n) (block-full i sound)))
+      (length-block i ∙ ap (λ (n : ℕ). 3 * n) (block-full i sound)))
     where
-      length-joined : (a b : List ℕ) (m n : ℕ) → length a ≡ 4 * m → length b ≡ 4 * n → length (a ++ b) ≡ 4 * (m + n)
+      length-joined : (a b : List ℕ) (m n : ℕ) → length a ≡ 3 * m → length b ≡ 3 * n → length (a ++ b) ≡ 3 * (m + n)
       length-joined a b m n p q = rw (length-append, p, q) (omega arith)
 
-  pub length-words : (n : ℕ) → lateStepFault o P B R ≡ blockCount B → n ≤ blockCount B → length (wordTable o P B R n) ≡ 4 * dummyIndex P B n
+  pub length-words : (n : ℕ) → lateStepFault o P B R ≡ blockCount B → n ≤ blockCount B → length (wordTable o P B R n) ≡ 3 * dummyIndex P B n
   length-words zero e h = rw (words-zero, index-zero P B)
   length-words (suc n) e h =
       rw (← add-one n) (words-full n (λ k l. sound-item o P B R (blockCount B) n k e (omega arith) (omega arith) l) (length-words n e (omega arith)))
@@ -137,21 +137,21 @@ module _ (o : ByteOrder) (P : List Place) (B R : List ℕ) where
   unfolding placeFrom movePlace lastPlace
   same-place i k = refl
 
-  -- where nothing is at fault: the words of block i stand behind those of the blocks before it, and the place of dummy k is word k of them
+  -- where nothing is at fault: the places of block i stand behind those of the blocks before it, and that of dummy k is the k-th of them
   module _ (e : lateStepFault o P B R ≡ blockCount B) (i : ℕ) (h : i < blockCount B) where
-    pub within-block : Within (blockWords o P B R i) (4 * dummyIndex P B i) (wordTable o P B R (blockCount B))
+    pub within-block : Within (blockWords o P B R i) (3 * dummyIndex P B i) (wordTable o P B R (blockCount B))
     unfolding wordTable
-    within-block = within-gather (λ j. true) (blockWords o P B R) i (blockCount B) (4 * dummyIndex P B i) (length-words i e (omega arith)) h refl
+    within-block = within-gather (λ j. true) (blockWords o P B R) i (blockCount B) (3 * dummyIndex P B i) (length-words i e (omega arith)) h refl
 
     all-sound : soundItems o B R i (lateFrom o P B R i) (liveDummies P B i) ≡ liveDummies P B i
     unfolding soundDummies
     all-sound = block-full i (λ k l. sound-item o P B R (blockCount B) i k e h h l)
 
-    pub within-dummy : (k : ℕ) → k < liveDummies P B i → Within (encoded Big 4 (movePlace o P B R i k)) (4 * k) (blockWords o P B R i)
+    pub within-dummy : (k : ℕ) → k < liveDummies P B i → Within (encoded Big 3 (movePlace o P B R i k)) (3 * k) (blockWords o P B R i)
     unfolding blockWords placeWords
     within-dummy k l =
         rw (all-sound, ← picked k l)
-        (within-flat (encoded Big 4) 4 (length-encoded Big 4) (select (λ j. true) (placeFrom o B R i (lateFrom o P B R i)) (liveDummies P B i)) k 0
+        (within-flat (encoded Big 3) 3 (length-encoded Big 3) (select (λ j. true) (placeFrom o B R i (lateFrom o P B R i)) (liveDummies P B i)) k 0
         (rw (select-all-length (placeFrom o B R i (lateFrom o P B R i)) (liveDummies P B i)) l))
       where
         picked : (k : ℕ) → k < liveDummies P B i
@@ -180,7 +180,7 @@ module _ (o : ByteOrder) (P : List Place) (B R : List ℕ) (s : ℕ) (before : L
       ∙ ap (λ (x : List ℕ). spliced x LATE_WORDS (wordTable o P B R i))
       (spliced-then before 0 t (rowAt o P B R s i) (LATE_ROW * i) (omega (arith, n)) (omega (arith, r)) ∙ rw (← rows-next o P B R s i))
 
-  -- the words of a block more
+  -- the places of a block more
   pub filled-words : (i n at : ℕ) → n ≤ BLOCK_LIMIT + 1 → at ≡ LATE_WORDS + length (wordTable o P B R i) → at + length (blockWords o P B R i) ≤ length before
       → spliced (filled o P B R s before n i) at (blockWords o P B R i) ≡ filled o P B R s before n (i + 1)
   unfolding filled

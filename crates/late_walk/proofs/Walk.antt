@@ -100,7 +100,7 @@ pub record WalkingBlocks (o : ByteOrder) (P : List Place) (B R : List ℕ) (s : 
   pub is : row ≡ lateRowOf o P B R s i
   pub inside : lateFrom o P B R i ≤ length R
   pub clear : lateStepFault o P B R ≡ first (hasIndex (isMoveFault o P B R) (items P B)) i (blockCount B)
-  pub full : length (wordTable o P B R i) ≡ 4 * dummyIndex P B i
+  pub full : length (wordTable o P B R i) ≡ 3 * dummyIndex P B i
   pub long : length late ≡ length before
   pub table : late ≡ filled o P B R s before i i
 
@@ -172,7 +172,7 @@ module _ (o : ByteOrder) (P : List Place) (B R table places : List ℕ) (blocks 
 
     module _ (h : i < blockCount B) where
       -- the table has room for the dummies of block i
-      words-room : LATE_WORDS + 4 * (row .dummies + liveDummies P B i) ≤ length before
+      words-room : LATE_WORDS + 3 * (row .dummies + liveDummies P B i) ≤ length before
       words-room = omega (arith, row-dummies, index-next P B i, index-few P B (i + 1) (omega arith) (y .parsed .small))
 
       pub at-block : AtBlock P B R table places rowed i row
@@ -188,13 +188,13 @@ module _ (o : ByteOrder) (P : List Place) (B R table places : List ℕ) (blocks 
       }
 
       -- block i is stepped over: then the places of its dummies stand in the table
-      module _ (after : List ℕ) (k : after ≡ spliced rowed (LATE_WORDS + 4 * row .dummies) (placeWords o B R i (row .last) (liveDummies P B i))) where
+      module _ (after : List ℕ) (k : after ≡ spliced rowed (LATE_WORDS + 3 * row .dummies) (placeWords o B R i (row .last) (liveDummies P B i))) where
         stepped : after ≡ filled o P B R (step .start) before (i + 1) (i + 1)
         unfolding blockWords
         stepped =
-            let a : LATE_WORDS + 4 * row .dummies ≡ LATE_WORDS + length (wordTable o P B R i) = omega (arith, w .full, row-dummies) in
-            let g : LATE_WORDS + 4 * row .dummies + length (blockWords o P B R i) ≤ length before = omega (arith, block-room o P B R i, words-room) in
-            k ∙ rw (row-last, rowed-is) (filled-words o P B R (step .start) before i (i + 1) (LATE_WORDS + 4 * row .dummies) (omega (arith, count-high B)) a g)
+            let a : LATE_WORDS + 3 * row .dummies ≡ LATE_WORDS + length (wordTable o P B R i) = omega (arith, w .full, row-dummies) in
+            let g : LATE_WORDS + 3 * row .dummies + length (blockWords o P B R i) ≤ length before = omega (arith, block-room o P B R i, words-room) in
+            k ∙ rw (row-last, rowed-is) (filled-words o P B R (step .start) before i (i + 1) (LATE_WORDS + 3 * row .dummies) (omega (arith, count-high B)) a g)
 
         pub walking-stop : hasIndex (isMoveFault o P B R) (items P B) i ≡ true → Walk o P B R (step .start) (At i) before after
         unfolding foundBelow
@@ -240,7 +240,7 @@ module _ (o : ByteOrder) (P : List Place) (B R : List ℕ) (s : ℕ) (before aft
       let rows = rowTable o P B R s (n + 1) in
       let words = wordTable o P B R n in
       let a : length rows ≡ LATE_ROW * (n + 1) = length-rows o P B R s (n + 1) in
-      let b : length words ≡ 4 * dummyIndex P B n = length-words o P B R n no-fault (omega arith) in
+      let b : length words ≡ 3 * dummyIndex P B n = length-words o P B R n no-fault (omega arith) in
       let g : 0 + length rows ≤ length before = omega (arith, count-high B) in
       let h : LATE_WORDS + length words ≤ length before = omega (arith, index-few P B n (omega arith) small) in
       let q : length (spliced before 0 rows) ≡ length before = length-spliced before 0 rows g in

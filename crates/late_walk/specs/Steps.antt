@@ -46,4 +46,4 @@ pub record AtBlock (P : List Place) (B R table places late : List ℕ) (i : ℕ)
   pub inside : row .last ≤ length R
   pub offset : row .source ≤ FILE_LIMIT
   pub few : row .dummies ≤ DUMMY_LIMIT
-  pub room : LATE_WORDS + 4 * (row .dummies + liveDummies P B i) ≤ length late
+  pub room : LATE_WORDS + 3 * (row .dummies + liveDummies P B i) ≤ length late

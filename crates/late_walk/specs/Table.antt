@@ -1,5 +1,5 @@
 -- Of the code, not of document 01: the table of the late step. A row for each block and one behind the last: the late offset, the number of dummies and the last place
--- before it; then the places of all dummies, a word each. Every other place follows from these (crates/late_lookups).
+-- before it; then the places of all dummies, three bytes each. Every other place follows from these (crates/late_lookups).
 use Prim.Native.Nat.{ℕ, _+_, min, _*_, _≤_}
 use mathlib.Core.Bool.{true}
 use mathlib.Core.List.{List, [], _∷_}

@@ -41,12 +41,12 @@ fn step_block(
 ) -> BlockStep
     requires { ⌜ AtBlock (placesIn (now places) (lineCount (now file))) (now file) (now rodata) (now table) (now places) (now late) i row ⌝ }
     ensures { λ r. ⌜ (r ≡ blockStep order (placesIn (now (places .entry)) (lineCount (now (file .entry)))) (now (file .entry)) (now (rodata .entry)) i row)
-        × (now (late .exit) ≡ spliced (now (late .entry)) (LATE_WORDS + 4 * row .dummies) (placeWords order (now (file .entry)) (now (rodata .entry)) i (row .last) (liveDummies (placesIn (now (places .entry)) (lineCount (now (file .entry)))) (now (file .entry)) i))) ⌝ }
+        × (now (late .exit) ≡ spliced (now (late .entry)) (LATE_WORDS + 3 * row .dummies) (placeWords order (now (file .entry)) (now (rodata .entry)) i (row .last) (liveDummies (placesIn (now (places .entry)) (lineCount (now (file .entry)))) (now (file .entry)) i))) ⌝ }
 {
     if blocks_places::is_live(file, table, places, i) {
         let count = blocks_items::dummy_count(table, i);
         let bytes = blocks_items::jump_table(file, table, i);
-        let at = base_scope::LATE_WORDS + 4 * row.dummies;
+        let at = base_scope::LATE_WORDS + 3 * row.dummies;
         return match late_blocks::place_block(
             order,
             rodata,

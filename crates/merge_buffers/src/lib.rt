@@ -9,15 +9,15 @@ pub const HOLDERS_AT: usize = 32768;
 
 pub const PLACE_BUFFER: usize = 81920;
 
-pub const USED_AT: usize = 291920;
+pub const USED_AT: usize = 222015;
 
-pub const STATIC_AT: usize = 296016;
+pub const STATIC_AT: usize = 226111;
 
-pub const GLABELS_AT: usize = 394320;
+pub const GLABELS_AT: usize = 324415;
 
-pub const LIST_AT: usize = 410704;
+pub const LIST_AT: usize = 340799;
 
-pub const STEP_BUFFER: usize = 459856;
+pub const STEP_BUFFER: usize = 389951;
 
 pub const NUMBERS_AT: usize = 49152;
 

@@ -64,7 +64,7 @@ module _ (late : List ℕ) (bytes : (i : ℕ) → getD late i 0 < 256) where
   row-small : (i x : ℕ) → placeInRow late i x < 2 ^ 32
   unfolding placeInRow lateWord lateField
   row-small i x = by-test (ltb ((x - lateField late SOURCE i) / 4) (rowDummies late i))
-      (λ t. rw t (number-lt Big 4 late (LATE_WORDS + 4 * (lateField late DUMMIES i + (x - lateField late SOURCE i) / 4)) bytes))
+      (λ t. rw t (omega (arith, number-lt Big 3 late (LATE_WORDS + 3 * (lateField late DUMMIES i + (x - lateField late SOURCE i) / 4)) bytes)))
       (λ f. rw f (omega (arith, number-lt Big 4 late (LATE_ROW * (i + 1) + 4 * LAST) bytes)))
 
   pub place-small : (n x : ℕ) (r : LatePlace) (p : ℕ) → r ≡ offsetAt late n x → r ≡ Moved p → p < 2 ^ 32

@@ -1,10 +1,11 @@
 -- `late_blocks::place_dummies` meets its contract: after k turns the places of k dummies stand in the table and the next search begins at `here`. A turn ends the loop
--- at the first dummy that is lost, and else writes one word more. Assumes nothing.
+-- at the first dummy that is lost, and else writes one place more. Assumes nothing.
 use Rattle.late_blocks.proofs.Items.{spot-at, spot-lost, PlacingDummies, placing-none, placing-lost, placing-fits, placing-next, placing-end}
 use Rattle.late_moves.specs.Moves.{itemPlace, itemFault}
 use borrow.Author.Needs.{needs}
 use native.Mathlib.Omega.{arith}
-use Prim.Native.Nat.{_-_}
+use Prim.Native.Nat.{_+_, _-_, _≤_}
+use lib.ListN.{length}
 use denote.Ref.{now}
 use Rattle.late_blocks.proofs.place_dummies.Statement.{statement}
 use Rattle.late_blocks.proofs.place_dummies.Tie as tie
@@ -27,14 +28,16 @@ dummy-spot-requires c κs = search needs
 enum-known-p : tie.Need-enum-known-p Inv-loop μ-loop
 enum-known-p c = search needs
 
-mul-write32 : tie.Need-mul-write32 Inv-loop μ-loop
-mul-write32 c = search needs
+mul-write24 : tie.Need-mul-write24 Inv-loop μ-loop
+mul-write24 c = search needs
 
-add-write32 : tie.Need-add-write32 Inv-loop μ-loop
-add-write32 c = search needs
+add-write24 : tie.Need-add-write24 Inv-loop μ-loop
+add-write24 c = search needs
 
-cast-write32 : tie.Need-cast-write32 Inv-loop μ-loop
-cast-write32 c =
+-- the place found lies inside .rodata
+inside : (c : tie.After-write24-arg Inv-loop μ-loop)
+    → c .before .before .p .given .0 .0 + 4 ≤ length (now (c .before .before .before .before .before .before .before .before .before .before .before .args .rodata))
+inside c =
     let a = c .before .before .before .before .before .before .before .before .before .before .before .args in
     let q = c .before .before .before .before .before .before .before .before .before .before .before .pre in
     let l = c .before .before .before .before .before .before .loop in
@@ -43,24 +46,18 @@ cast-write32 c =
     let t =
     spot-at (itemFault (a .order) (now (a .file)) (now (a .rodata)) (a .i) (l .here) (l .k))
     (itemPlace (a .order) (now (a .file)) (now (a .rodata)) (a .i) (l .here) (l .k)) p (r .result) (r .ensures) (c .before .before .p .given .1) in
-    let f = placing-fits (a .order) (now (a .file)) (now (a .rodata)) (a .i) (a .last) (a .count) (now (a .late)) (a .at) (l .k) (l .here) (l .late) (l .inv) (omega arith) p (t .0) (t .1) (q .2) in
-    record { fits = omega (arith, f) }
+    placing-fits (a .order) (now (a .file)) (now (a .rodata)) (a .i) (a .last) (a .count) (now (a .late)) (a .at) (l .k) (l .here) (l .late) (l .inv) (omega arith) p (t .0) (t .1) (q .2)
 
-write32-requires : tie.Need-write32-requires Inv-loop μ-loop
-write32-requires c κs = search needs
+cast-write24 : tie.Need-cast-write24 Inv-loop μ-loop
+cast-write24 c = record { fits = omega (arith, inside c) }
+
+write24-requires : tie.Need-write24-requires Inv-loop μ-loop
+write24-requires c κs =
+    let l = c .before .before .before .before .before .before .loop in
+    (omega (arith, l .inv .long), omega (arith, inside c))
 
 add-here : tie.Need-add-here Inv-loop μ-loop
-add-here c =
-    let a = c .before .before .before .before .before .before .before .before .before .before .before .before .before .before .args in
-    let q = c .before .before .before .before .before .before .before .before .before .before .before .before .before .before .pre in
-    let l = c .before .before .before .before .before .before .before .before .before .loop in
-    let p = c .before .before .before .before .before .p .given .0 .0 in
-    let r = c .before .before .before .before .before .before .before .dummy-spot in
-    let t =
-    spot-at (itemFault (a .order) (now (a .file)) (now (a .rodata)) (a .i) (l .here) (l .k))
-    (itemPlace (a .order) (now (a .file)) (now (a .rodata)) (a .i) (l .here) (l .k)) p (r .result) (r .ensures) (c .before .before .before .before .before .p .given .1) in
-    let f = placing-fits (a .order) (now (a .file)) (now (a .rodata)) (a .i) (a .last) (a .count) (now (a .late)) (a .at) (l .k) (l .here) (l .late) (l .inv) (omega arith) p (t .0) (t .1) (q .2) in
-    omega (arith, f)
+add-here c = omega (arith, inside (c .before .before .before))
 
 add-k : tie.Need-add-k Inv-loop μ-loop
 add-k c = search needs
@@ -81,7 +78,7 @@ loop-again c =
     let n =
     placing-next (a .order) (now (a .file)) (now (a .rodata)) (a .i) (a .last) (a .count) (now (a .late)) (a .at) (l .k) (l .here) (l .late) (l .inv) (omega arith) p (t .0) (t .1) (q .2)
     (q .5) in
-    rw (c .before .before .write32 .ensures) n
+    rw (c .before .before .write24 .ensures) n
 
 enum-told : tie.Need-enum-told Inv-loop μ-loop
 enum-told c = search needs
@@ -117,10 +114,10 @@ place-dummies-spec =
     loop-holds
     dummy-spot-requires
     enum-known-p
-    mul-write32
-    add-write32
-    cast-write32
-    write32-requires
+    mul-write24
+    add-write24
+    cast-write24
+    write24-requires
     add-here
     add-k
     loop-less

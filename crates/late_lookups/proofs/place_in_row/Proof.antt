@@ -1,4 +1,4 @@
--- `late_lookups::place_in_row` meets its contract: the word of a dummy lies in the table, and an offset behind the dummies is no further from the end than the jump
+-- `late_lookups::place_in_row` meets its contract: the place of a dummy lies in the table, and an offset behind the dummies is no further from the end than the jump
 -- table is long. Assumes nothing.
 use Rattle.late_lookups.proofs.Fields.{word-read, place-word, place-rest, row-words, row-rest}
 use borrow.Author.Needs.{needs}
@@ -31,22 +31,22 @@ add-m c =
     let p = c .before .before .before .before .before .pre in
     omega (arith, c .field-at2 .ensures .1, c .before .before .before .field-at .ensures .1, c .field-at2 .ensures .0, row-words (now (a .late)) (a .i) (p .0) ((a .x - c .before .before .before .field-at .result) / 4) (omega (arith, c .before .before .row-dummies .ensures)))
 
-mul-read32 : tie.Need-mul-read32
-mul-read32 c =
+mul-read24 : tie.Need-mul-read24
+mul-read24 c =
     let a = c .before .before .before .before .before .args in
     let p = c .before .before .before .before .before .pre in
     let w = row-words (now (a .late)) (a .i) (p .0) ((a .x - c .before .before .before .field-at .result) / 4) (omega (arith, c .before .before .row-dummies .ensures)) in
     omega (arith, w, c .field-at2 .ensures .0)
 
-add-read32 : tie.Need-add-read32
-add-read32 c =
+add-read24 : tie.Need-add-read24
+add-read24 c =
     let a = c .before .before .before .before .before .args in
     let p = c .before .before .before .before .before .pre in
     let w = row-words (now (a .late)) (a .i) (p .0) ((a .x - c .before .before .before .field-at .result) / 4) (omega (arith, c .before .before .row-dummies .ensures)) in
     omega (arith, w, c .field-at2 .ensures .0)
 
-read32-requires : tie.Need-read32-requires
-read32-requires c κs =
+read24-requires : tie.Need-read24-requires
+read24-requires c κs =
     let a = c .before .before .before .before .before .args in
     let p = c .before .before .before .before .before .pre in
     let w = row-words (now (a .late)) (a .i) (p .0) ((a .x - c .before .before .before .field-at .result) / 4) (omega (arith, c .before .before .row-dummies .ensures)) in
@@ -63,7 +63,7 @@ returns c =
     let e : k ≡ (a .x - lateField (now (a .late)) 0 (a .i)) / 4 = omega (arith, c .before .before .before .before .field-at .ensures .0) in
     let m : c .before .field-at2 .result + k ≡ lateField (now (a .late)) 1 (a .i) + k = omega (arith, c .before .field-at2 .ensures .0) in
     let h : k < rowDummies (now (a .late)) (a .i) = omega (arith, c .before .before .before .row-dummies .ensures) in
-    place-word (now (a .late)) (a .i) (a .x) k (c .read32 .result) e h (rw (← m) (word-read (now (a .late)) (c .before .field-at2 .result + k) (c .read32 .result) (c .read32 .ensures)))
+    place-word (now (a .late)) (a .i) (a .x) k (c .read24 .result) e h (rw (← m) (word-read (now (a .late)) (c .before .field-at2 .result + k) (c .read24 .result) (c .read24 .ensures .0)))
 
 add-field-at : tie.Need-add-field-at
 add-field-at c = search needs
@@ -107,9 +107,9 @@ place-in-row-spec =
     row-dummies-requires
     field-at-requires-2
     add-m
-    mul-read32
-    add-read32
-    read32-requires
+    mul-read24
+    add-read24
+    read24-requires
     cast-result
     returns
     add-field-at

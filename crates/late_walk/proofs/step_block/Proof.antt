@@ -87,7 +87,7 @@ returns c =
     let p = c .before .before .before .end .given .0 .0 in
     let s = spot-sound (a .order) (now (a .file)) (now (a .rodata)) (a .i) (a .row .last) (n .result + 1) p (b .result) (b .ensures .0) (c .before .before .before .end .given .1) in (
       step-next (a .order) _ (now (a .file)) (now (a .rodata)) (a .i) (a .row) (n .result) (j .result) t (d .0) (j .ensures .0) p (s .0) (s .1),
-      words-live (a .order) _ (now (a .file)) (now (a .rodata)) (a .i) (a .row) (n .result) (j .result) t (d .0) (j .ensures .0) (now (a .late)) _ (LATE_WORDS + 4 * a .row .dummies) (b .ensures .1),
+      words-live (a .order) _ (now (a .file)) (now (a .rodata)) (a .i) (a .row) (n .result) (j .result) t (d .0) (j .ensures .0) (now (a .late)) _ (LATE_WORDS + 3 * a .row .dummies) (b .ensures .1),
     )
 
 same-length-2 : tie.Need-same-length-2
@@ -104,14 +104,14 @@ returns-2 c =
     let b = c .before .before .before .before .place-block in
     let h = spot-unsound (a .order) (now (a .file)) (now (a .rodata)) (a .i) (a .row .last) (n .result + 1) (b .result) (b .ensures .0) (c .enum-told .given .1) in (
       step-stop (a .order) _ (now (a .file)) (now (a .rodata)) (a .i) (a .row) (n .result) (j .result) t (d .0) (j .ensures .0) h,
-      words-live (a .order) _ (now (a .file)) (now (a .rodata)) (a .i) (a .row) (n .result) (j .result) t (d .0) (j .ensures .0) (now (a .late)) _ (LATE_WORDS + 4 * a .row .dummies) (b .ensures .1),
+      words-live (a .order) _ (now (a .file)) (now (a .rodata)) (a .i) (a .row) (n .result) (j .result) t (d .0) (j .ensures .0) (now (a .late)) _ (LATE_WORDS + 3 * a .row .dummies) (b .ensures .1),
     )
 
 returns-3 : tie.Need-returns-3
 returns-3 c =
     let a = c .before .before .before .before .before .before .before .args in
     let f = sym (c .before .is-live .ensures) ∙ c .if1 .left in
-    (step-off (a .order) _ (now (a .file)) (now (a .rodata)) (a .i) (a .row) f, words-off (a .order) _ (now (a .file)) (now (a .rodata)) (a .i) (a .row) f (now (a .late)) (LATE_WORDS + 4 * a .row .dummies))
+    (step-off (a .order) _ (now (a .file)) (now (a .rodata)) (a .i) (a .row) f, words-off (a .order) _ (now (a .file)) (now (a .rodata)) (a .i) (a .row) f (now (a .late)) (LATE_WORDS + 3 * a .row .dummies))
 
 pub step-block-spec : {M : Type 1} → statement M
 step-block-spec =
