@@ -21,6 +21,7 @@ use Rattle.base_lists.specs.Strings.{same, nameAt}
 use Rattle.base_fields.specs.Layouts.{fieldsFrom}
 use Rattle.base_fields.specs.Numbers.{number}
 use Rattle.elf_records.specs.Header.{elfAt, elfFrom, elfLayout}
+use Rattle.elf_records.specs.Section.{sectionAt, sectionFrom, sectionLayout}
 use Rattle.elf_readers.specs.Readers.{orderOf, header, sectionCount, headerPlace, section, contents, isStrtab, sectionStrings, sectionName, hasName, sectionNamed, codedSection, hasCode, codedContents}
 
 module _ (o : ByteOrder) (F : List ℕ) where
@@ -39,6 +40,21 @@ module _ (o : ByteOrder) (F : List ℕ) where
   pub place-at : (i : ℕ) → headerPlace o F i ≡ number o 4 F 32 + 40 * i
   unfolding headerPlace
   place-at i = rw shoff-at
+
+  -- one field of a header, from where the headers start
+  pub place-from : (i : ℕ) → headerPlace o F i ≡ headerPlace o F 0 + 40 * i
+  unfolding headerPlace
+  place-from i = omega arith
+
+  pub name-field : (i : ℕ) → number o 4 F (headerPlace o F 0 + 40 * i) ≡ section o F i .«sh_name»
+  unfolding section sectionAt sectionFrom sectionLayout fieldsFrom
+  name-field i =
+      let e : headerPlace o F 0 + 40 * i ≡ headerPlace o F i + 0 = omega (arith, place-from i) in
+      ap (number o 4 F) e
+
+  pub type-field : (i : ℕ) → number o 4 F (headerPlace o F 0 + 40 * i + 4) ≡ section o F i .«sh_type»
+  unfolding section sectionAt sectionFrom sectionLayout fieldsFrom
+  type-field i = rw (← place-from i)
 
 module _ (F : List ℕ) where
   pub order-short : length F ≤ 5 → Big ≡ orderOf F
@@ -82,9 +98,11 @@ module _ (o : ByteOrder) (F : List ℕ) (i : ℕ) (h : SectionHeader) (s : List 
   unfolding sectionName
   name-read = rw (is, table)
 
-  pub has-name-read : (name : List ℕ) → same (nameAt s (h .«sh_name»)) name ≡ hasName o F name i
-  unfolding hasName
-  has-name-read name = rw name-read
+-- or from where it starts there
+pub has-name-read : (o : ByteOrder) (F : List ℕ) (i at : ℕ) (s name : List ℕ) → at ≡ section o F i .«sh_name» → s ≡ sectionStrings o F
+    → same (nameAt s at) name ≡ hasName o F name i
+unfolding hasName sectionName
+has-name-read o F i at s name is table = rw (is, table)
 
 pub strtab-lt : (o : ByteOrder) (F : List ℕ) (i : ℕ) → isStrtab o F i ≡ true → i < sectionCount o F
 unfolding isStrtab

@@ -48,6 +48,22 @@ pub fn section_at(order: ByteOrder, file: &[u8], i: usize) -> SectionHeader
     SectionHeader::new(order, file, at)
 }
 
+// The type of section i; `at` is where the headers start. A search among the sections reads no more of each.
+pub fn section_type(order: ByteOrder, file: &[u8], at: usize, i: usize) -> u32
+    requires { ⌜ Headed order (now file) × (at ≡ headerPlace order (now file) 0) × (i < sectionCount order (now file)) ⌝ }
+    ensures { λ r. ⌜ r ≡ section order (now (file .entry)) i .«sh_type» ⌝ }
+{
+    base_fields::read32(order, file, at + SectionHeader::SIZE * i + 4)
+}
+
+// Where the name of section i starts in the names' table; `at` is where the headers start.
+fn name_place(order: ByteOrder, file: &[u8], at: usize, i: usize) -> usize
+    requires { ⌜ Headed order (now file) × (at ≡ headerPlace order (now file) 0) × (i < sectionCount order (now file)) ⌝ }
+    ensures { λ r. ⌜ r ≡ section order (now (file .entry)) i .«sh_name» ⌝ }
+{
+    base_fields::read32(order, file, at + SectionHeader::SIZE * i) as usize
+}
+
 // The bytes of section i, as a part of the file.
 pub fn contents_of<'a>(order: ByteOrder, file: &'a [u8], i: usize) -> &'a [u8]
     requires { ⌜ Headed order (now file) × (i < sectionCount order (now file)) ⌝ }
@@ -93,13 +109,12 @@ pub fn section_name<'a>(order: ByteOrder, file: &'a [u8], i: usize) -> &'a [u8]
     base_names::name_at(strings, h.sh_name as usize)
 }
 
-// Whether section i has a name; `strings` is the names' table.
-fn has_name(order: ByteOrder, file: &[u8], strings: &[u8], name: &[u8], i: usize) -> bool
-    requires { ⌜ Headed order (now file) × (now strings ≡ sectionStrings order (now file)) × (i < sectionCount order (now file)) ⌝ }
+// Whether section i has a name; `at` is where the headers start, `strings` the names' table.
+fn has_name(order: ByteOrder, file: &[u8], at: usize, strings: &[u8], name: &[u8], i: usize) -> bool
+    requires { ⌜ Headed order (now file) × (at ≡ headerPlace order (now file) 0) × (now strings ≡ sectionStrings order (now file)) × (i < sectionCount order (now file)) ⌝ }
     ensures { λ r. ⌜ r ≡ hasName order (now (file .entry)) (now (name .entry)) i ⌝ }
 {
-    let h = section_at(order, file, i);
-    base_names::name_is(strings, h.sh_name as usize, name)
+    base_names::name_is(strings, name_place(order, file, at, i), name)
 }
 
 // The section of a name: the first that has it, or the section count.
@@ -107,11 +122,12 @@ pub fn section_named(order: ByteOrder, file: &[u8], name: &[u8]) -> usize
     requires { ⌜ Named order (now file) ⌝ }
     ensures { λ r. ⌜ r ≡ sectionNamed order (now (file .entry)) (now (name .entry)) ⌝ }
 {
+    let at = header_place(order, file, 0);
     let strings = section_strings(order, file);
     let n = section_count(order, file);
     let mut i: usize = 0;
     while i < n {
-        if has_name(order, file, strings, name, i) {
+        if has_name(order, file, at, strings, name, i) {
             return i;
         }
         i += 1;
