@@ -84,9 +84,9 @@ module _ (o : ByteOrder) (F : List ℕ) (i : ℕ) (h : SectionHeader) (is : h �
   pub held-part : Headed o F → i < sectionCount o F → (h .«sh_type» ≡ SHT_NOBITS → ⊥) → h .«sh_offset» + h .«sh_size» ≤ length F
   held-part s l e = rw is (s .held i l (λ t. e (ap (λ (x : SectionHeader). x .«sh_type») is ∙ t)))
 
-  pub strtab-there : i < sectionCount o F → eqb (h .«sh_type») SHT_STRTAB ≡ isStrtab o F i
-  unfolding isStrtab
-  strtab-there l = rw (lt-ltb _ _ l, is)
+pub strtab-there : (o : ByteOrder) (F : List ℕ) (i kind : ℕ) → kind ≡ section o F i .«sh_type» → i < sectionCount o F → eqb kind SHT_STRTAB ≡ isStrtab o F i
+unfolding isStrtab
+strtab-there o F i kind is l = rw (lt-ltb _ _ l, is)
 
 pub strtab-past : (o : ByteOrder) (F : List ℕ) (i : ℕ) → sectionCount o F ≤ i → false ≡ isStrtab o F i
 unfolding isStrtab

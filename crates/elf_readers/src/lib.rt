@@ -56,6 +56,15 @@ pub fn section_type(order: ByteOrder, file: &[u8], at: usize, i: usize) -> u32
     base_fields::read32(order, file, at + SectionHeader::SIZE * i + 4)
 }
 
+// The type of section i: one word of its header.
+pub fn type_of(order: ByteOrder, file: &[u8], i: usize) -> u32
+    requires { ⌜ Headed order (now file) × (i < sectionCount order (now file)) ⌝ }
+    ensures { λ r. ⌜ r ≡ section order (now (file .entry)) i .«sh_type» ⌝ }
+{
+    let at = header_place(order, file, 0);
+    section_type(order, file, at, i)
+}
+
 // Where the name of section i starts in the names' table; `at` is where the headers start.
 fn name_place(order: ByteOrder, file: &[u8], at: usize, i: usize) -> usize
     requires { ⌜ Headed order (now file) × (at ≡ headerPlace order (now file) 0) × (i < sectionCount order (now file)) ⌝ }
@@ -84,8 +93,7 @@ pub fn is_strtab(order: ByteOrder, file: &[u8], i: usize) -> bool
     ensures { λ r. ⌜ r ≡ isStrtab order (now (file .entry)) i ⌝ }
 {
     if i < section_count(order, file) {
-        let h = section_at(order, file, i);
-        return h.sh_type == base_scope::SHT_STRTAB;
+        return type_of(order, file, i) == base_scope::SHT_STRTAB;
     }
     false
 }

@@ -8,7 +8,7 @@ use Prim.Native.Nat.{ℕ, _+_, _*_, _/_, _≤_, _<_}
 use native.Mathlib.Omega.{arith}
 use lib.ListN.{length}
 use lib.Dec.{eqb, ltb}
-use borrow.Author.Tests.{eqb-true, ltb-true, lt-ltb, le-ltb, not-false}
+use borrow.Author.Tests.{eq-eqb, ne-eqb, eqb-true, ltb-true, lt-ltb, le-ltb, not-false}
 use Rattle.base_lists.specs.Ranges.{first}
 use Rattle.base_lists.proofs.Ranges.{and-parts, by-test}
 use Rattle.base_fields.specs.declared.ByteOrder.{ByteOrder}
@@ -57,18 +57,31 @@ module _ (o : ByteOrder) (F : List ℕ) (i : ℕ) where
   pub size-cases : (entrySize o F i ≡ 8) ⊎ (entrySize o F i ≡ 12)
   size-cases = by-test (isRela o F i) (λ e. inr (size-rela e)) (λ e. inl (size-rel e))
 
+  pub relocates-none : (s : ℕ) → isTable o F i ≡ false → false ≡ relocates o F s i
+  unfolding relocates
+  relocates-none s t = rw t
+
+-- a section's type in hand
+module _ (o : ByteOrder) (F : List ℕ) (i kind : ℕ) (is : kind ≡ section o F i .«sh_type») where
+  pub rela-kind : eqb kind SHT_RELA ≡ isRela o F i
+  unfolding isRela
+  rela-kind = rw is
+
+  pub table-kind-rela : kind ≡ SHT_RELA → true ≡ isTable o F i
+  table-kind-rela e = table-rela o F i (sym rela-kind ∙ eq-eqb _ _ e)
+
+  pub table-kind : (kind ≡ SHT_RELA → ⊥) → eqb kind SHT_REL ≡ isTable o F i
+  table-kind d = rw is (table-other o F i (sym rela-kind ∙ ne-eqb _ _ d))
+
 -- a section's header in hand
 module _ (o : ByteOrder) (F : List ℕ) (i : ℕ) (h : SectionHeader) (is : h ≡ section o F i) where
   pub rela-read : eqb (h .«sh_type») SHT_RELA ≡ isRela o F i
   unfolding isRela
   rela-read = rw is
 
-  pub table-read : isRela o F i ≡ false → eqb (h .«sh_type») SHT_REL ≡ isTable o F i
-  table-read e = rw is (table-other o F i e)
-
-  pub relocates-read : (s : ℕ) (t r : Bool) → t ≡ isTable o F i → r ≡ (t && eqb (h .«sh_info») s) → r ≡ relocates o F s i
+  pub relocates-read : (s : ℕ) → isTable o F i ≡ true → eqb (h .«sh_info») s ≡ relocates o F s i
   unfolding relocates
-  relocates-read s t r p e = rw (e, p, is)
+  relocates-read s t = rw (t, is)
 
   pub count-read : (size : ℕ) → size ≡ entrySize o F i → h .«sh_size» / size ≡ relocationCount o F i
   unfolding relocationCount

@@ -16,8 +16,7 @@ pub fn is_rela(order: ByteOrder, file: &[u8], i: usize) -> bool
     requires { ⌜ Headed order (now file) × (i < sectionCount order (now file)) ⌝ }
     ensures { λ r. ⌜ r ≡ isRela order (now (file .entry)) i ⌝ }
 {
-    let h = elf_readers::section_at(order, file, i);
-    h.sh_type == base_scope::SHT_RELA
+    elf_readers::type_of(order, file, i) == base_scope::SHT_RELA
 }
 
 // Whether section i is a relocation table.
@@ -25,11 +24,11 @@ pub fn is_table(order: ByteOrder, file: &[u8], i: usize) -> bool
     requires { ⌜ Headed order (now file) × (i < sectionCount order (now file)) ⌝ }
     ensures { λ r. ⌜ r ≡ isTable order (now (file .entry)) i ⌝ }
 {
-    if is_rela(order, file, i) {
+    let kind = elf_readers::type_of(order, file, i);
+    if kind == base_scope::SHT_RELA {
         return true;
     }
-    let h = elf_readers::section_at(order, file, i);
-    h.sh_type == base_scope::SHT_REL
+    kind == base_scope::SHT_REL
 }
 
 // Bytes of an entry of table i.
@@ -85,8 +84,11 @@ fn is_table_for(order: ByteOrder, file: &[u8], s: usize, i: usize) -> bool
     requires { ⌜ Headed order (now file) × (i < sectionCount order (now file)) ⌝ }
     ensures { λ r. ⌜ r ≡ relocates order (now (file .entry)) s i ⌝ }
 {
-    let h = elf_readers::section_at(order, file, i);
-    base_scope::both(is_table(order, file, i), h.sh_info as usize == s)
+    if is_table(order, file, i) {
+        let h = elf_readers::section_at(order, file, i);
+        return h.sh_info as usize == s;
+    }
+    false
 }
 
 // The first relocation table for section s at or after i, or the section count.
