@@ -1,3 +1,4 @@
 pub mod Ends
 pub mod Equal
 pub mod Parts
+pub mod Zeros

@@ -2,11 +2,11 @@
 // definition in the crate base_lists, specs/Strings.antt: comparisons are equations of lists, so a zero byte in a compared string is a byte
 // like any other.
 ghost use mathlib.Core.Path.{_≡_};
-ghost use mathlib.Core.Bool.{false, not, _&&_};
+ghost use mathlib.Core.Bool.{not, _&&_};
 ghost use mathlib.Core.List.{_++_};
 ghost use Prim.Native.Nat.{_+_, _≤_};
 ghost use lib.ListN.{length, take, drop};
-ghost use lib.Dec.{eqb};
+ghost use lib.Dec.{eqb, ltb};
 ghost use Rattle.base_lists.specs.Ranges.{pastLast};
 ghost use Rattle.base_lists.specs.Strings.{same, prefixed, zeroAt, nameEnd, nameAt, ascii};
 ghost use Rattle.base_names.specs.Ends.{endsApart};
@@ -18,15 +18,14 @@ pub enum Owner {
     Assembled,
 }
 
-// Whether one of the 16 bytes at `at` is zero: where none is, the name at `at` ends where the name behind them does. All 16 are looked at, so that the compiler
-// compares them at once.
-fn has_zero(t: &[u8], at: usize) -> bool
-    requires { ⌜ at + 16 ≤ length (now t) ⌝ }
-    ensures { λ r. ⌜ (r ≡ false → nameEnd (now (t .entry)) at ≡ nameEnd (now (t .entry)) (at + 16)) ⌝ }
+// Whether one of the n bytes at `at` is zero, so that the name at `at` ends among them. All n are looked at, so that the compiler compares them at once.
+fn has_zero(t: &[u8], at: usize, n: usize) -> bool
+    requires { ⌜ at + n ≤ length (now t) ⌝ }
+    ensures { λ r. ⌜ r ≡ ltb (nameEnd (now (t .entry)) at) (at + n) ⌝ }
 {
     let mut hit = false;
     let mut i: usize = 0;
-    while i < 16 {
+    while i < n {
         if t[at + i] == 0 {
             hit = true;
             i += 1;
@@ -46,7 +45,7 @@ fn near_end(t: &[u8], at: usize) -> usize
         if t.len() - i < 16 {
             return i;
         }
-        if has_zero(t, i) {
+        if has_zero(t, i, 16) {
             return i;
         }
         i += 16;
@@ -183,13 +182,49 @@ fn is_joined(part: &[u8], front: &[u8], back: &[u8]) -> bool
     false
 }
 
-// Whether it is that and holds no zero byte.
+// Whether a byte string holds no zero byte, n bytes at a time; the last n are looked at by themselves, so that no rest is left.
+fn is_zero_free_by(s: &[u8], n: usize) -> bool
+    requires { ⌜ (1 ≤ n) × (n ≤ length (now s)) ⌝ }
+    ensures { λ r. ⌜ r ≡ eqb (nameEnd (now (s .entry)) 0) (length (now (s .entry))) ⌝ }
+{
+    let last = s.len() - n;
+    let mut i: usize = 0;
+    while i < last {
+        if has_zero(s, i, n) {
+            return false;
+        }
+        i += n;
+    }
+    if has_zero(s, last, n) {
+        return false;
+    }
+    true
+}
+
+// Whether a byte string holds no zero byte, as many at a time as `same_bytes` compares.
+fn is_zero_free(s: &[u8]) -> bool
+    ensures { λ r. ⌜ r ≡ eqb (nameEnd (now (s .entry)) 0) (length (now (s .entry))) ⌝ }
+{
+    let n = s.len();
+    if 8 <= n {
+        return is_zero_free_by(s, 8);
+    }
+    if 4 <= n {
+        return is_zero_free_by(s, 4);
+    }
+    if 1 <= n {
+        return is_zero_free_by(s, 1);
+    }
+    true
+}
+
+// Whether a part of a table is a front and a back and holds no zero byte.
 fn is_whole(part: &[u8], front: &[u8], back: &[u8]) -> bool
     requires { ⌜ length (now part) ≡ length (now front) + length (now back) ⌝ }
     ensures { λ r. ⌜ r ≡ (same (now (part .entry)) (now (front .entry) ++ now (back .entry)) && eqb (nameEnd (now (part .entry)) 0) (length (now (part .entry)))) ⌝ }
 {
     if is_joined(part, front, back) {
-        return end_of(part, 0) == part.len();
+        return is_zero_free(part);
     }
     false
 }

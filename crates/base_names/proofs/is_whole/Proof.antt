@@ -14,14 +14,14 @@ use Rattle.base_names.proofs.Parts.{and-then, and-not}
 is-joined-requires : tie.Need-is-joined-requires
 is-joined-requires c κs = search needs
 
-end-of-requires : tie.Need-end-of-requires
-end-of-requires c κs = search needs
+is-zero-free-requires : tie.Need-is-zero-free-requires
+is-zero-free-requires c κs = search needs
 
 returns : tie.Need-returns
 returns c =
     let a = c .before .before .before .before .before .before .args in
     let n = length (now (a .part)) in
-    ap (λ (e : ℕ). eqb e n) (c .end-of .ensures)
+    c .is-zero-free .ensures
     ∙ and-then (same (now (a .part)) (now (a .front) ++ now (a .back))) (eqb (nameEnd (now (a .part)) 0) n) (sym (c .before .before .is-joined .ensures) ∙ c .before .if1 .taken)
 
 returns-2 : tie.Need-returns-2
@@ -31,4 +31,4 @@ returns-2 c =
     and-not (same (now (a .part)) (now (a .front) ++ now (a .back))) (eqb (nameEnd (now (a .part)) 0) n) (sym (c .before .is-joined .ensures) ∙ c .if1 .left)
 
 pub is-whole-spec : {M : Type 1} → statement M
-is-whole-spec = tie.close (tie.spec is-joined-requires end-of-requires returns returns-2)
+is-whole-spec = tie.close (tie.spec is-joined-requires is-zero-free-requires returns returns-2)
