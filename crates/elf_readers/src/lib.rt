@@ -3,6 +3,7 @@
 ghost use mathlib.Core.Path.{_≡_};
 ghost use Prim.Native.Nat.{_+_, _*_, _≤_, _<_};
 ghost use lib.ListN.{length};
+ghost use Rattle.base_fields.specs.Numbers.{number};
 ghost use Rattle.base_scope.specs.Codes.{CODES};
 ghost use Rattle.elf_readers.specs.Readers.{orderOf, header, sectionCount, headerPlace, section, contents, isStrtab, sectionStrings, sectionName, hasName, sectionNamed, codedSection};
 ghost use Rattle.elf_readers.specs.Bounds.{Headed, Named};
@@ -48,12 +49,20 @@ pub fn section_at(order: ByteOrder, file: &[u8], i: usize) -> SectionHeader
     SectionHeader::new(order, file, at)
 }
 
+// Word k of section i's header; `at` is where the headers start.
+fn header_word(order: ByteOrder, file: &[u8], at: usize, i: usize, k: usize) -> u32
+    requires { ⌜ Headed order (now file) × (at ≡ headerPlace order (now file) 0) × (i < sectionCount order (now file)) × (k < 10) ⌝ }
+    ensures { λ r. ⌜ r ≡ number order 4 (now (file .entry)) (headerPlace order (now (file .entry)) i + 4 * k) ⌝ }
+{
+    base_fields::read32(order, file, at + SectionHeader::SIZE * i + 4 * k)
+}
+
 // The type of section i; `at` is where the headers start. A search among the sections reads no more of each.
 pub fn section_type(order: ByteOrder, file: &[u8], at: usize, i: usize) -> u32
     requires { ⌜ Headed order (now file) × (at ≡ headerPlace order (now file) 0) × (i < sectionCount order (now file)) ⌝ }
     ensures { λ r. ⌜ r ≡ section order (now (file .entry)) i .«sh_type» ⌝ }
 {
-    base_fields::read32(order, file, at + SectionHeader::SIZE * i + 4)
+    header_word(order, file, at, i, 1)
 }
 
 // The type of section i: one word of its header.
@@ -66,11 +75,11 @@ pub fn type_of(order: ByteOrder, file: &[u8], i: usize) -> u32
 }
 
 // Where the name of section i starts in the names' table; `at` is where the headers start.
-fn name_place(order: ByteOrder, file: &[u8], at: usize, i: usize) -> usize
+pub fn name_place(order: ByteOrder, file: &[u8], at: usize, i: usize) -> usize
     requires { ⌜ Headed order (now file) × (at ≡ headerPlace order (now file) 0) × (i < sectionCount order (now file)) ⌝ }
     ensures { λ r. ⌜ r ≡ section order (now (file .entry)) i .«sh_name» ⌝ }
 {
-    base_fields::read32(order, file, at + SectionHeader::SIZE * i) as usize
+    header_word(order, file, at, i, 0) as usize
 }
 
 // The bytes of section i, as a part of the file.
@@ -78,12 +87,12 @@ pub fn contents_of<'a>(order: ByteOrder, file: &'a [u8], i: usize) -> &'a [u8]
     requires { ⌜ Headed order (now file) × (i < sectionCount order (now file)) ⌝ }
     ensures { λ r. ⌜ now r ≡ contents order (now (file .entry)) i ⌝ }
 {
-    let h = section_at(order, file, i);
-    if h.sh_type == base_scope::SHT_NOBITS {
+    let at = header_place(order, file, 0);
+    if section_type(order, file, at, i) == base_scope::SHT_NOBITS {
         return &file[0..0];
     }
-    let from = h.sh_offset as usize;
-    let to = from + h.sh_size as usize;
+    let from = header_word(order, file, at, i, 4) as usize;
+    let to = from + header_word(order, file, at, i, 5) as usize;
     &file[from..to]
 }
 
@@ -112,9 +121,9 @@ pub fn section_name<'a>(order: ByteOrder, file: &'a [u8], i: usize) -> &'a [u8]
     requires { ⌜ Named order (now file) × (i < sectionCount order (now file)) ⌝ }
     ensures { λ r. ⌜ now r ≡ sectionName order (now (file .entry)) i ⌝ }
 {
-    let h = section_at(order, file, i);
+    let at = header_place(order, file, 0);
     let strings = section_strings(order, file);
-    base_names::name_at(strings, h.sh_name as usize)
+    base_names::name_at(strings, name_place(order, file, at, i))
 }
 
 // Whether section i has a name; `at` is where the headers start, `strings` the names' table.
