@@ -50,7 +50,7 @@ pub fn section_at(order: ByteOrder, file: &[u8], i: usize) -> SectionHeader
 }
 
 // Word k of section i's header; `at` is where the headers start.
-fn header_word(order: ByteOrder, file: &[u8], at: usize, i: usize, k: usize) -> u32
+pub fn header_word(order: ByteOrder, file: &[u8], at: usize, i: usize, k: usize) -> u32
     requires { ⌜ Headed order (now file) × (at ≡ headerPlace order (now file) 0) × (i < sectionCount order (now file)) × (k < 10) ⌝ }
     ensures { λ r. ⌜ r ≡ number order 4 (now (file .entry)) (headerPlace order (now (file .entry)) i + 4 * k) ⌝ }
 {

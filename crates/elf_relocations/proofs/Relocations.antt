@@ -54,12 +54,24 @@ module _ (o : ByteOrder) (F : List ℕ) (i : ℕ) where
   unfolding entrySize
   size-rel e = rw e rel-width
 
+  pub size-kind : (rela : Bool) (r : ℕ) → rela ≡ isRela o F i → r ≡ widthOf (relocationLayout rela) → r ≡ entrySize o F i
+  unfolding entrySize
+  size-kind rela r e w = rw (w, e)
+
   pub size-cases : (entrySize o F i ≡ 8) ⊎ (entrySize o F i ≡ 12)
   size-cases = by-test (isRela o F i) (λ e. inr (size-rela e)) (λ e. inl (size-rel e))
 
   pub relocates-none : (s : ℕ) → isTable o F i ≡ false → false ≡ relocates o F s i
   unfolding relocates
   relocates-none s t = rw t
+
+-- the bytes of an entry
+module _ (rela : Bool) where
+  pub width-rela : rela ≡ true → 12 ≡ widthOf (relocationLayout rela)
+  width-rela e = rw e (sym rela-width)
+
+  pub width-rel : rela ≡ false → 8 ≡ widthOf (relocationLayout rela)
+  width-rel e = rw e (sym rel-width)
 
 -- a section's type in hand
 module _ (o : ByteOrder) (F : List ℕ) (i kind : ℕ) (is : kind ≡ section o F i .«sh_type») where
@@ -167,15 +179,14 @@ module _ (o : ByteOrder) (F : List ℕ) (t k : ℕ) where
   pub relocation-inside : Headed o F → Listed o F t k → section o F t .«sh_offset» + entrySize o F t * k + entrySize o F t ≤ length F
   relocation-inside s l = omega (arith, s .held t (l .table) (table-type o F t (l .kind)), listed-held l)
 
-  -- from a header in hand
-  module _ (h : SectionHeader) (rela : Bool) (size : ℕ) (is : h ≡ section o F t) (kind : rela ≡ isRela o F t) (wide : size ≡ entrySize o F t) where
-    pub inside-read : Headed o F → Listed o F t k → h .«sh_offset» + size * k + size ≤ length F
-    inside-read s l = rw (is, wide) (relocation-inside s l)
+  -- from where the entries start, in hand
+  module _ (at : ℕ) (rela : Bool) (size : ℕ) (is : at ≡ section o F t .«sh_offset») (kind : rela ≡ isRela o F t) (wide : size ≡ widthOf (relocationLayout rela)) where
+    size-read : size ≡ entrySize o F t
+    size-read = size-kind o F t rela size kind wide
 
-    pub width-read : size ≡ widthOf (relocationLayout rela)
-    unfolding entrySize
-    width-read = rw (wide, kind)
+    pub inside-read : Headed o F → Listed o F t k → at + size * k + size ≤ length F
+    inside-read s l = rw (is, size-read) (relocation-inside s l)
 
-    pub relocation-read : relocationAt o rela F (h .«sh_offset» + size * k) ≡ relocation o F t k
+    pub relocation-read : relocationAt o rela F (at + size * k) ≡ relocation o F t k
     unfolding relocation
-    relocation-read = rw (is, kind, wide)
+    relocation-read = rw (is, size-read, kind)
