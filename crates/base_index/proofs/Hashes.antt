@@ -4,8 +4,8 @@ use mathlib.Core.Path.{_≡_, refl, sym, ap, _∙_}
 use mathlib.Core.List.{List, [], _∷_, _++_}
 use native.Mathlib.Nat.{div-add-mod', mul-add-mod-self-left}
 use native.Mathlib.Omega.{arith}
-use lib.ListN.{length, getD, take, drop, length-take, length-append, drop-of-length-le}
-use lib.Seq.{getD-take}
+use lib.ListN.{length, getD, take, drop, length-take, length-append, drop-of-length-le, take-append-drop}
+use lib.Seq.{getD-take, take-take}
 use Rattle.base_lists.proofs.Windows.{drop-next}
 use Rattle.base_index.specs.Index.{HASH_BYTES, mixedByte, mixed, hashStart, hashOf}
 
@@ -70,6 +70,12 @@ mixed-four g s room i h =
       mixed-next (mixedByte (mixedByte (mixedByte g (getD s i 0)) (getD s (i + 1) 0)) (getD s (i + 2) 0)) s room (i + 3) (omega arith),
       four,
     )
+
+-- a front that is hashed by itself
+pub mixed-front : (h : ℕ) (s : List ℕ) (room k : ℕ) → k ≤ room → mixed h (take room s) ≡ mixed (mixed h (take k s)) (drop k (take room s))
+mixed-front h s room k l =
+    ap (mixed h) (sym (take-append-drop k (take room s))) ∙ mixed-append h (take k (take room s)) (drop k (take room s))
+    ∙ ap (λ (f : List ℕ). mixed (mixed h f) (drop k (take room s))) (take-take k room s l)
 
 -- a rest that goes into the next byte's need not have been taken
 rest-late : (n x : ℕ) → mixedByte (n % 2 ^ 32) x ≡ mixedByte n x

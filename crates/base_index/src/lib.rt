@@ -2,7 +2,7 @@
 // a hash for each item, builds, and walks from `head_of` on by `next_of`; proofs/Index.antt has the laws of that walk. Definitions and layout: specs/Index.antt.
 ghost use mathlib.Core.Path.{_≡_};
 ghost use mathlib.Core.List.{_++_};
-ghost use Prim.Native.Nat.{min, _+_, _-_, _*_, _^_, _≤_, _<_};
+ghost use Prim.Native.Nat.{min, _+_, _-_, _*_, _%_, _^_, _≤_, _<_};
 ghost use lib.ListN.{length, take};
 ghost use Rattle.base_lists.specs.Windows.{spliced};
 ghost use Rattle.base_fields.specs.declared.ByteOrder.the-variants.{Big};
@@ -40,21 +40,30 @@ fn shorter(a: usize, b: usize) -> usize
     b
 }
 
+// A hash with the first `end` bytes of a string behind it, four at a time.
+fn hash_fours(h: u32, s: &[u8], end: usize) -> u32
+    requires { ⌜ (end % 4 ≡ 0) × (end ≤ length (now s)) ⌝ }
+    ensures { λ r. ⌜ r ≡ mixed h (take end (now (s .entry))) ⌝ }
+{
+    let mut g = h;
+    let mut i: usize = 0;
+    while i < end {
+        g = mix_four(g, s[i], s[i + 1], s[i + 2], s[i + 3]);
+        i += 4;
+    }
+    g
+}
+
 // A hash with the first `room` bytes of a string behind it: a string in parts is hashed part by part (proofs/Hashes.antt, `hash-parts`).
 pub fn hash_on(h: u32, s: &[u8], room: usize) -> u32
     ensures { λ r. ⌜ r ≡ mixed h (take room (now (s .entry))) ⌝ }
 {
     let end = shorter(room, s.len());
-    let mut g = h;
-    let mut i: usize = 0;
+    let mut i = end / 4 * 4;
+    let mut g = hash_fours(h, s, i);
     while i < end {
-        if end - i < 4 {
-            g = mix(g, s[i]);
-            i += 1;
-        } else {
-            g = mix_four(g, s[i], s[i + 1], s[i + 2], s[i + 3]);
-            i += 4;
-        }
+        g = mix(g, s[i]);
+        i += 1;
     }
     g
 }

@@ -1,3 +1,5 @@
 pub mod Ends
+pub mod Equal
 pub mod Parts
 pub mod Prefixes
+pub mod Zeros

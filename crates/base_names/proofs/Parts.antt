@@ -86,6 +86,14 @@ part-is t s at inside ends = by-test (same (take (length s) (drop at t)) s)
     (λ d. rw (is, d) (sym (part-cut t s at inside is (eqb-false _ _ d)))))
     (λ f. rw f (sym (part-other t s at inside f)))
 
+-- the same, by the part's own length
+pub whole-is : (t s : List ℕ) (at n : ℕ) → n ≡ length s → at + n ≤ length t → getD t (at + n) 0 ≡ 0
+    → (same (take n (drop at t)) s && eqb (nameEnd (take n (drop at t)) 0) (length (take n (drop at t)))) ≡ same (nameAt t at) s
+whole-is t s at n e inside ends =
+    let fits : at + length s ≤ length t = omega (arith, e, inside) in
+    let zero : getD t (at + length s) 0 ≡ 0 = ap (λ (k : ℕ). getD t (at + k) 0) (sym e) ∙ ends in
+    rw e (ap (λ (k : ℕ). same (part t s at fits) s && eqb (nameEnd (part t s at fits) 0) k) (part-long t s at fits) ∙ part-is t s at fits zero)
+
 -- ---- tests
 
 pub and-then : (a b : Bool) → a ≡ true → b ≡ (a && b)

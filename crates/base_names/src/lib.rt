@@ -2,10 +2,11 @@
 // definition in the crate base_lists, specs/Strings.antt: comparisons are equations of lists, so a zero byte in a compared string is a byte
 // like any other.
 ghost use mathlib.Core.Path.{_≡_};
-ghost use mathlib.Core.Bool.{false, not, _&&_};
+ghost use mathlib.Core.Bool.{not, _&&_};
+ghost use mathlib.Core.List.{_++_};
 ghost use Prim.Native.Nat.{_+_, _≤_};
-ghost use lib.ListN.{length, drop};
-ghost use lib.Dec.{eqb};
+ghost use lib.ListN.{length, take, drop};
+ghost use lib.Dec.{eqb, ltb};
 ghost use Rattle.base_lists.specs.Ranges.{pastLast};
 ghost use Rattle.base_lists.specs.Strings.{same, prefixed, zeroAt, nameEnd, nameAt, ascii};
 ghost use Rattle.base_names.specs.Ends.{endsApart};
@@ -17,15 +18,14 @@ pub enum Owner {
     Assembled,
 }
 
-// Whether one of the 16 bytes at `at` is zero: where none is, the name at `at` ends where the name behind them does. All 16 are looked at, so that the compiler
-// compares them at once.
-fn has_zero(t: &[u8], at: usize) -> bool
-    requires { ⌜ at + 16 ≤ length (now t) ⌝ }
-    ensures { λ r. ⌜ (r ≡ false → nameEnd (now (t .entry)) at ≡ nameEnd (now (t .entry)) (at + 16)) ⌝ }
+// Whether one of the n bytes at `at` is zero, so that the name at `at` ends among them. All n are looked at, so that the compiler compares them at once.
+fn has_zero(t: &[u8], at: usize, n: usize) -> bool
+    requires { ⌜ at + n ≤ length (now t) ⌝ }
+    ensures { λ r. ⌜ r ≡ ltb (nameEnd (now (t .entry)) at) (at + n) ⌝ }
 {
     let mut hit = false;
     let mut i: usize = 0;
-    while i < 16 {
+    while i < n {
         if t[at + i] == 0 {
             hit = true;
             i += 1;
@@ -45,7 +45,7 @@ fn near_end(t: &[u8], at: usize) -> usize
         if t.len() - i < 16 {
             return i;
         }
-        if has_zero(t, i) {
+        if has_zero(t, i, 16) {
             return i;
         }
         i += 16;
@@ -103,56 +103,58 @@ pub fn past_last_zero(t: &[u8]) -> usize
     0
 }
 
-// Whether two byte strings differ in one of the 16 bytes at `at`: where they do not, they are equal from `at` on where they are behind these. All 16 are looked
-// at, so that the compiler compares them at once.
-fn has_difference(a: &[u8], b: &[u8], at: usize) -> bool
-    requires { ⌜ (at + 16 ≤ length (now a)) × (at + 16 ≤ length (now b)) ⌝ }
-    ensures { λ r. ⌜ (r ≡ false → same (drop at (now (a .entry))) (drop at (now (b .entry))) ≡ same (drop (at + 16) (now (a .entry))) (drop (at + 16) (now (b .entry)))) ⌝ }
+// Whether two byte strings have the same n bytes at `at`. All n are looked at, so that the compiler compares them at once.
+fn is_same_part(a: &[u8], b: &[u8], at: usize, n: usize) -> bool
+    requires { ⌜ (at + n ≤ length (now a)) × (at + n ≤ length (now b)) ⌝ }
+    ensures { λ r. ⌜ r ≡ same (take n (drop at (now (a .entry)))) (take n (drop at (now (b .entry)))) ⌝ }
 {
-    let mut hit = false;
+    let mut alike = true;
     let mut i: usize = 0;
-    while i < 16 {
+    while i < n {
         if a[at + i] != b[at + i] {
-            hit = true;
+            alike = false;
             i += 1;
         } else {
             i += 1;
         }
     }
-    hit
+    alike
 }
 
-// Two byte strings of one length passed over 16 bytes at a time, as long as these are equal: less than 16 bytes on they differ or end.
-fn near_difference(a: &[u8], b: &[u8]) -> usize
-    requires { ⌜ length (now a) ≡ length (now b) ⌝ }
-    ensures { λ r. ⌜ same (now (a .entry)) (now (b .entry)) ≡ same (drop r (now (a .entry))) (drop r (now (b .entry))) ⌝ }
+// Whether two byte strings of one length are equal, n bytes at a time. The last n are compared by themselves, some of them perhaps for a second time, so that no
+// rest is left.
+fn is_same_by(a: &[u8], b: &[u8], n: usize) -> bool
+    requires { ⌜ (length (now a) ≡ length (now b)) × (1 ≤ n) × (n ≤ length (now a)) ⌝ }
+    ensures { λ r. ⌜ r ≡ same (now (a .entry)) (now (b .entry)) ⌝ }
 {
+    let last = a.len() - n;
     let mut i: usize = 0;
-    while i < a.len() {
-        if a.len() - i < 16 {
-            return i;
+    while i < last {
+        if is_same_part(a, b, i, n) {
+            i += n;
+        } else {
+            return false;
         }
-        if has_difference(a, b, i) {
-            return i;
-        }
-        i += 16;
     }
-    i
+    is_same_part(a, b, last, n)
 }
 
-// Whether two byte strings are equal.
+// Whether two byte strings are equal: 8 bytes at a time where they have as many, else 4, else byte by byte.
 pub fn same_bytes(a: &[u8], b: &[u8]) -> bool
     ensures { λ r. ⌜ r ≡ same (now (a .entry)) (now (b .entry)) ⌝ }
 {
-    if a.len() != b.len() {
+    let n = a.len();
+    if n != b.len() {
         return false;
     }
-    let mut i = near_difference(a, b);
-    while i < a.len() {
-        if a[i] != b[i] {
-            return false;
-        }
-        i += 1;
+    if 8 <= n {
+        return is_same_by(a, b, 8);
+    }
+    if 4 <= n {
+        return is_same_by(a, b, 4);
+    }
+    if 1 <= n {
+        return is_same_by(a, b, 1);
     }
     true
 }
@@ -174,12 +176,61 @@ pub fn has_prefix(s: &[u8], p: &[u8]) -> bool
     true
 }
 
-// Whether a part of a table is a given byte string and holds no zero byte.
-fn is_whole(part: &[u8], s: &[u8]) -> bool
-    ensures { λ r. ⌜ r ≡ (same (now (part .entry)) (now (s .entry)) && eqb (nameEnd (now (part .entry)) 0) (length (now (s .entry)))) ⌝ }
+// Whether a part of a table is a front and a back.
+fn is_joined(part: &[u8], front: &[u8], back: &[u8]) -> bool
+    requires { ⌜ length (now part) ≡ length (now front) + length (now back) ⌝ }
+    ensures { λ r. ⌜ r ≡ same (now (part .entry)) (now (front .entry) ++ now (back .entry)) ⌝ }
 {
-    if same_bytes(part, s) {
-        return end_of(part, 0) == s.len();
+    let n = front.len();
+    if same_bytes(&part[0..n], front) {
+        return same_bytes(&part[n..part.len()], back);
+    }
+    false
+}
+
+// Whether a byte string holds no zero byte, n bytes at a time; the last n are looked at by themselves, so that no rest is left.
+fn is_zero_free_by(s: &[u8], n: usize) -> bool
+    requires { ⌜ (1 ≤ n) × (n ≤ length (now s)) ⌝ }
+    ensures { λ r. ⌜ r ≡ eqb (nameEnd (now (s .entry)) 0) (length (now (s .entry))) ⌝ }
+{
+    let last = s.len() - n;
+    let mut i: usize = 0;
+    while i < last {
+        if has_zero(s, i, n) {
+            return false;
+        }
+        i += n;
+    }
+    if has_zero(s, last, n) {
+        return false;
+    }
+    true
+}
+
+// Whether a byte string holds no zero byte, as many at a time as `same_bytes` compares.
+fn is_zero_free(s: &[u8]) -> bool
+    ensures { λ r. ⌜ r ≡ eqb (nameEnd (now (s .entry)) 0) (length (now (s .entry))) ⌝ }
+{
+    let n = s.len();
+    if 8 <= n {
+        return is_zero_free_by(s, 8);
+    }
+    if 4 <= n {
+        return is_zero_free_by(s, 4);
+    }
+    if 1 <= n {
+        return is_zero_free_by(s, 1);
+    }
+    true
+}
+
+// Whether a part of a table is a front and a back and holds no zero byte.
+fn is_whole(part: &[u8], front: &[u8], back: &[u8]) -> bool
+    requires { ⌜ length (now part) ≡ length (now front) + length (now back) ⌝ }
+    ensures { λ r. ⌜ r ≡ (same (now (part .entry)) (now (front .entry) ++ now (back .entry)) && eqb (nameEnd (now (part .entry)) 0) (length (now (part .entry)))) ⌝ }
+{
+    if is_joined(part, front, back) {
+        return is_zero_free(part);
     }
     false
 }
@@ -194,12 +245,12 @@ fn goes_on(t: &[u8], at: usize) -> bool
     t[at] != 0
 }
 
-// Whether the name at `at` is a given byte string: the table has it there, without a zero byte and with one behind it. It reads no more than the string's bytes, so a
+// Whether the name at `at` is a front and a back: the table has them there, without a zero byte and with one behind them. It reads no more than their bytes, so a
 // long name costs nothing where a short one is asked for.
-fn name_from(t: &[u8], at: usize, s: &[u8]) -> bool
-    ensures { λ r. ⌜ r ≡ same (nameAt (now (t .entry)) at) (now (s .entry)) ⌝ }
+pub fn name_joined(t: &[u8], at: usize, front: &[u8], back: &[u8]) -> bool
+    ensures { λ r. ⌜ r ≡ same (nameAt (now (t .entry)) at) (now (front .entry) ++ now (back .entry)) ⌝ }
 {
-    let n = s.len();
+    let n = front.len() + back.len();
     if at > t.len() {
         return n == 0;
     }
@@ -210,7 +261,7 @@ fn name_from(t: &[u8], at: usize, s: &[u8]) -> bool
     if goes_on(t, end) {
         return false;
     }
-    is_whole(&t[at..end], s)
+    is_whole(&t[at..end], front, back)
 }
 
 // Whether a table has another byte where the last one of a string would stand, were the string at `at`. The labels of an object begin alike and end apart, so this
@@ -238,7 +289,7 @@ pub fn name_is(t: &[u8], at: usize, s: &[u8]) -> bool
     if ends_apart(t, at, s) {
         return false;
     }
-    name_from(t, at, s)
+    name_joined(t, at, s, b"")
 }
 
 // Whether no byte is over 127.

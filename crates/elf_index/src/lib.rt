@@ -5,7 +5,6 @@ ghost use mathlib.Core.Path.{_≡_};
 ghost use mathlib.Core.List.{_++_};
 ghost use Prim.Native.Nat.{_+_, _<_, _≤_};
 ghost use lib.ListN.{length};
-ghost use Rattle.base_lists.specs.Strings.{same, nameAt};
 ghost use Rattle.base_lists.specs.Windows.{spliced};
 ghost use Rattle.base_fields.specs.declared.ByteOrder.the-variants.{Big};
 ghost use Rattle.base_fields.specs.Numbers.{encoded};
@@ -41,28 +40,6 @@ pub fn index_symbols(order: ByteOrder, file: &[u8], symbols: SymbolTable, index:
     base_index::build(index, base_scope::SYMBOL_LIMIT, n);
 }
 
-// Whether the name at `at` is a front followed by a back, byte by byte. It reads no further than the first byte that differs.
-fn joined_from(t: &[u8], at: usize, front: &[u8], back: &[u8]) -> bool
-    ensures { λ r. ⌜ r ≡ same (nameAt (now (t .entry)) at) (now (front .entry) ++ now (back .entry)) ⌝ }
-{
-    let mut i: usize = 0;
-    let mut j = at;
-    while i < front.len() {
-        if j >= t.len() {
-            return false;
-        }
-        if t[j] == 0 {
-            return false;
-        }
-        if t[j] != front[i] {
-            return false;
-        }
-        i += 1;
-        j += 1;
-    }
-    base_names::name_is(t, j, back)
-}
-
 // Whether symbol k has the name of a front and a back, of which the hash is in hand: names are read only where the hashes agree.
 fn is_joined(
     order: ByteOrder,
@@ -80,7 +57,7 @@ fn is_joined(
 {
     if base_index::hash_at(index, k) == hash {
         let s = elf_symbols::symbol_at(order, file, at, k);
-        return joined_from(strings, s.st_name as usize, front, back);
+        return base_names::name_joined(strings, s.st_name as usize, front, back);
     }
     false
 }

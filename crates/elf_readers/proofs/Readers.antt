@@ -21,6 +21,7 @@ use Rattle.base_lists.specs.Strings.{same, nameAt}
 use Rattle.base_fields.specs.Layouts.{fieldsFrom}
 use Rattle.base_fields.specs.Numbers.{number}
 use Rattle.elf_records.specs.Header.{elfAt, elfFrom, elfLayout}
+use Rattle.elf_records.specs.Section.{sectionAt, sectionFrom, sectionLayout}
 use Rattle.elf_readers.specs.Readers.{orderOf, header, sectionCount, headerPlace, section, contents, isStrtab, sectionStrings, sectionName, hasName, sectionNamed, codedSection, hasCode, codedContents}
 
 module _ (o : ByteOrder) (F : List ℕ) where
@@ -39,6 +40,28 @@ module _ (o : ByteOrder) (F : List ℕ) where
   pub place-at : (i : ℕ) → headerPlace o F i ≡ number o 4 F 32 + 40 * i
   unfolding headerPlace
   place-at i = rw shoff-at
+
+  -- where a header stands, from where the first does; and words of it
+  pub place-from : (i : ℕ) → headerPlace o F i ≡ headerPlace o F 0 + 40 * i
+  unfolding headerPlace
+  place-from i = omega arith
+
+  module _ (i : ℕ) where
+    pub name-word : number o 4 F (headerPlace o F i + 4 * 0) ≡ section o F i .«sh_name»
+    unfolding section sectionAt sectionFrom sectionLayout fieldsFrom
+    name-word = refl
+
+    pub type-word : number o 4 F (headerPlace o F i + 4 * 1) ≡ section o F i .«sh_type»
+    unfolding section sectionAt sectionFrom sectionLayout fieldsFrom
+    type-word = refl
+
+    pub offset-word : number o 4 F (headerPlace o F i + 4 * 4) ≡ section o F i .«sh_offset»
+    unfolding section sectionAt sectionFrom sectionLayout fieldsFrom
+    offset-word = refl
+
+    pub size-word : number o 4 F (headerPlace o F i + 4 * 5) ≡ section o F i .«sh_size»
+    unfolding section sectionAt sectionFrom sectionLayout fieldsFrom
+    size-word = refl
 
 module _ (F : List ℕ) where
   pub order-short : length F ≤ 5 → Big ≡ orderOf F
@@ -68,23 +91,34 @@ module _ (o : ByteOrder) (F : List ℕ) (i : ℕ) (h : SectionHeader) (is : h �
   pub held-part : Headed o F → i < sectionCount o F → (h .«sh_type» ≡ SHT_NOBITS → ⊥) → h .«sh_offset» + h .«sh_size» ≤ length F
   held-part s l e = rw is (s .held i l (λ t. e (ap (λ (x : SectionHeader). x .«sh_type») is ∙ t)))
 
-  pub strtab-there : i < sectionCount o F → eqb (h .«sh_type») SHT_STRTAB ≡ isStrtab o F i
-  unfolding isStrtab
-  strtab-there l = rw (lt-ltb _ _ l, is)
+-- or its words
+pub words-part : (o : ByteOrder) (F : List ℕ) (i from size : ℕ) → from ≡ section o F i .«sh_offset» → size ≡ section o F i .«sh_size»
+    → (section o F i .«sh_type» ≡ SHT_NOBITS → ⊥) → take (from + size - from) (drop from F) ≡ contents o F i
+words-part o F i from size p q e = rw (p, q) (contents-part o F i (section o F i) refl e)
+
+pub strtab-there : (o : ByteOrder) (F : List ℕ) (i kind : ℕ) → kind ≡ section o F i .«sh_type» → i < sectionCount o F → eqb kind SHT_STRTAB ≡ isStrtab o F i
+unfolding isStrtab
+strtab-there o F i kind is l = rw (lt-ltb _ _ l, is)
 
 pub strtab-past : (o : ByteOrder) (F : List ℕ) (i : ℕ) → sectionCount o F ≤ i → false ≡ isStrtab o F i
 unfolding isStrtab
 strtab-past o F i l = rw (le-ltb _ _ l)
 
--- a section's name, read from the names' table in hand
+-- a section's name, read from the names' table in hand: by its header,
 module _ (o : ByteOrder) (F : List ℕ) (i : ℕ) (h : SectionHeader) (s : List ℕ) (is : h ≡ section o F i) (table : s ≡ sectionStrings o F) where
   pub name-read : nameAt s (h .«sh_name») ≡ sectionName o F i
   unfolding sectionName
   name-read = rw (is, table)
 
-  pub has-name-read : (name : List ℕ) → same (nameAt s (h .«sh_name»)) name ≡ hasName o F name i
-  unfolding hasName
-  has-name-read name = rw name-read
+-- or from where it starts there
+pub name-placed : (o : ByteOrder) (F : List ℕ) (i at : ℕ) (s : List ℕ) → at ≡ section o F i .«sh_name» → s ≡ sectionStrings o F → nameAt s at ≡ sectionName o F i
+unfolding sectionName
+name-placed o F i at s is table = rw (is, table)
+
+pub has-name-read : (o : ByteOrder) (F : List ℕ) (i at : ℕ) (s name : List ℕ) → at ≡ section o F i .«sh_name» → s ≡ sectionStrings o F
+    → same (nameAt s at) name ≡ hasName o F name i
+unfolding hasName sectionName
+has-name-read o F i at s name is table = rw (is, table)
 
 pub strtab-lt : (o : ByteOrder) (F : List ℕ) (i : ℕ) → isStrtab o F i ≡ true → i < sectionCount o F
 unfolding isStrtab

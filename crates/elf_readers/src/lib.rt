@@ -3,6 +3,7 @@
 ghost use mathlib.Core.Path.{_≡_};
 ghost use Prim.Native.Nat.{_+_, _*_, _≤_, _<_};
 ghost use lib.ListN.{length};
+ghost use Rattle.base_fields.specs.Numbers.{number};
 ghost use Rattle.base_scope.specs.Codes.{CODES};
 ghost use Rattle.elf_readers.specs.Readers.{orderOf, header, sectionCount, headerPlace, section, contents, isStrtab, sectionStrings, sectionName, hasName, sectionNamed, codedSection};
 ghost use Rattle.elf_readers.specs.Bounds.{Headed, Named};
@@ -48,17 +49,50 @@ pub fn section_at(order: ByteOrder, file: &[u8], i: usize) -> SectionHeader
     SectionHeader::new(order, file, at)
 }
 
+// Word k of section i's header; `at` is where the headers start.
+pub fn header_word(order: ByteOrder, file: &[u8], at: usize, i: usize, k: usize) -> u32
+    requires { ⌜ Headed order (now file) × (at ≡ headerPlace order (now file) 0) × (i < sectionCount order (now file)) × (k < 10) ⌝ }
+    ensures { λ r. ⌜ r ≡ number order 4 (now (file .entry)) (headerPlace order (now (file .entry)) i + 4 * k) ⌝ }
+{
+    base_fields::read32(order, file, at + SectionHeader::SIZE * i + 4 * k)
+}
+
+// The type of section i; `at` is where the headers start. A search among the sections reads no more of each.
+pub fn section_type(order: ByteOrder, file: &[u8], at: usize, i: usize) -> u32
+    requires { ⌜ Headed order (now file) × (at ≡ headerPlace order (now file) 0) × (i < sectionCount order (now file)) ⌝ }
+    ensures { λ r. ⌜ r ≡ section order (now (file .entry)) i .«sh_type» ⌝ }
+{
+    header_word(order, file, at, i, 1)
+}
+
+// The type of section i: one word of its header.
+pub fn type_of(order: ByteOrder, file: &[u8], i: usize) -> u32
+    requires { ⌜ Headed order (now file) × (i < sectionCount order (now file)) ⌝ }
+    ensures { λ r. ⌜ r ≡ section order (now (file .entry)) i .«sh_type» ⌝ }
+{
+    let at = header_place(order, file, 0);
+    section_type(order, file, at, i)
+}
+
+// Where the name of section i starts in the names' table; `at` is where the headers start.
+pub fn name_place(order: ByteOrder, file: &[u8], at: usize, i: usize) -> usize
+    requires { ⌜ Headed order (now file) × (at ≡ headerPlace order (now file) 0) × (i < sectionCount order (now file)) ⌝ }
+    ensures { λ r. ⌜ r ≡ section order (now (file .entry)) i .«sh_name» ⌝ }
+{
+    header_word(order, file, at, i, 0) as usize
+}
+
 // The bytes of section i, as a part of the file.
 pub fn contents_of<'a>(order: ByteOrder, file: &'a [u8], i: usize) -> &'a [u8]
     requires { ⌜ Headed order (now file) × (i < sectionCount order (now file)) ⌝ }
     ensures { λ r. ⌜ now r ≡ contents order (now (file .entry)) i ⌝ }
 {
-    let h = section_at(order, file, i);
-    if h.sh_type == base_scope::SHT_NOBITS {
+    let at = header_place(order, file, 0);
+    if section_type(order, file, at, i) == base_scope::SHT_NOBITS {
         return &file[0..0];
     }
-    let from = h.sh_offset as usize;
-    let to = from + h.sh_size as usize;
+    let from = header_word(order, file, at, i, 4) as usize;
+    let to = from + header_word(order, file, at, i, 5) as usize;
     &file[from..to]
 }
 
@@ -68,8 +102,7 @@ pub fn is_strtab(order: ByteOrder, file: &[u8], i: usize) -> bool
     ensures { λ r. ⌜ r ≡ isStrtab order (now (file .entry)) i ⌝ }
 {
     if i < section_count(order, file) {
-        let h = section_at(order, file, i);
-        return h.sh_type == base_scope::SHT_STRTAB;
+        return type_of(order, file, i) == base_scope::SHT_STRTAB;
     }
     false
 }
@@ -88,18 +121,17 @@ pub fn section_name<'a>(order: ByteOrder, file: &'a [u8], i: usize) -> &'a [u8]
     requires { ⌜ Named order (now file) × (i < sectionCount order (now file)) ⌝ }
     ensures { λ r. ⌜ now r ≡ sectionName order (now (file .entry)) i ⌝ }
 {
-    let h = section_at(order, file, i);
+    let at = header_place(order, file, 0);
     let strings = section_strings(order, file);
-    base_names::name_at(strings, h.sh_name as usize)
+    base_names::name_at(strings, name_place(order, file, at, i))
 }
 
-// Whether section i has a name; `strings` is the names' table.
-fn has_name(order: ByteOrder, file: &[u8], strings: &[u8], name: &[u8], i: usize) -> bool
-    requires { ⌜ Headed order (now file) × (now strings ≡ sectionStrings order (now file)) × (i < sectionCount order (now file)) ⌝ }
+// Whether section i has a name; `at` is where the headers start, `strings` the names' table.
+fn has_name(order: ByteOrder, file: &[u8], at: usize, strings: &[u8], name: &[u8], i: usize) -> bool
+    requires { ⌜ Headed order (now file) × (at ≡ headerPlace order (now file) 0) × (now strings ≡ sectionStrings order (now file)) × (i < sectionCount order (now file)) ⌝ }
     ensures { λ r. ⌜ r ≡ hasName order (now (file .entry)) (now (name .entry)) i ⌝ }
 {
-    let h = section_at(order, file, i);
-    base_names::name_is(strings, h.sh_name as usize, name)
+    base_names::name_is(strings, name_place(order, file, at, i), name)
 }
 
 // The section of a name: the first that has it, or the section count.
@@ -107,11 +139,12 @@ pub fn section_named(order: ByteOrder, file: &[u8], name: &[u8]) -> usize
     requires { ⌜ Named order (now file) ⌝ }
     ensures { λ r. ⌜ r ≡ sectionNamed order (now (file .entry)) (now (name .entry)) ⌝ }
 {
+    let at = header_place(order, file, 0);
     let strings = section_strings(order, file);
     let n = section_count(order, file);
     let mut i: usize = 0;
     while i < n {
-        if has_name(order, file, strings, name, i) {
+        if has_name(order, file, at, strings, name, i) {
             return i;
         }
         i += 1;

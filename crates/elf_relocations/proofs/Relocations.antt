@@ -8,7 +8,7 @@ use Prim.Native.Nat.{ℕ, _+_, _*_, _/_, _≤_, _<_}
 use native.Mathlib.Omega.{arith}
 use lib.ListN.{length}
 use lib.Dec.{eqb, ltb}
-use borrow.Author.Tests.{eqb-true, ltb-true, lt-ltb, le-ltb, not-false}
+use borrow.Author.Tests.{eq-eqb, ne-eqb, eqb-true, ltb-true, lt-ltb, le-ltb, not-false}
 use Rattle.base_lists.specs.Ranges.{first}
 use Rattle.base_lists.proofs.Ranges.{and-parts, by-test}
 use Rattle.base_fields.specs.declared.ByteOrder.{ByteOrder}
@@ -54,8 +54,36 @@ module _ (o : ByteOrder) (F : List ℕ) (i : ℕ) where
   unfolding entrySize
   size-rel e = rw e rel-width
 
+  pub size-kind : (rela : Bool) (r : ℕ) → rela ≡ isRela o F i → r ≡ widthOf (relocationLayout rela) → r ≡ entrySize o F i
+  unfolding entrySize
+  size-kind rela r e w = rw (w, e)
+
   pub size-cases : (entrySize o F i ≡ 8) ⊎ (entrySize o F i ≡ 12)
   size-cases = by-test (isRela o F i) (λ e. inr (size-rela e)) (λ e. inl (size-rel e))
+
+  pub relocates-none : (s : ℕ) → isTable o F i ≡ false → false ≡ relocates o F s i
+  unfolding relocates
+  relocates-none s t = rw t
+
+-- the bytes of an entry
+module _ (rela : Bool) where
+  pub width-rela : rela ≡ true → 12 ≡ widthOf (relocationLayout rela)
+  width-rela e = rw e (sym rela-width)
+
+  pub width-rel : rela ≡ false → 8 ≡ widthOf (relocationLayout rela)
+  width-rel e = rw e (sym rel-width)
+
+-- a section's type in hand
+module _ (o : ByteOrder) (F : List ℕ) (i kind : ℕ) (is : kind ≡ section o F i .«sh_type») where
+  pub rela-kind : eqb kind SHT_RELA ≡ isRela o F i
+  unfolding isRela
+  rela-kind = rw is
+
+  pub table-kind-rela : kind ≡ SHT_RELA → true ≡ isTable o F i
+  table-kind-rela e = table-rela o F i (sym rela-kind ∙ eq-eqb _ _ e)
+
+  pub table-kind : (kind ≡ SHT_RELA → ⊥) → eqb kind SHT_REL ≡ isTable o F i
+  table-kind d = rw is (table-other o F i (sym rela-kind ∙ ne-eqb _ _ d))
 
 -- a section's header in hand
 module _ (o : ByteOrder) (F : List ℕ) (i : ℕ) (h : SectionHeader) (is : h ≡ section o F i) where
@@ -63,12 +91,9 @@ module _ (o : ByteOrder) (F : List ℕ) (i : ℕ) (h : SectionHeader) (is : h �
   unfolding isRela
   rela-read = rw is
 
-  pub table-read : isRela o F i ≡ false → eqb (h .«sh_type») SHT_REL ≡ isTable o F i
-  table-read e = rw is (table-other o F i e)
-
-  pub relocates-read : (s : ℕ) (t r : Bool) → t ≡ isTable o F i → r ≡ (t && eqb (h .«sh_info») s) → r ≡ relocates o F s i
+  pub relocates-read : (s : ℕ) → isTable o F i ≡ true → eqb (h .«sh_info») s ≡ relocates o F s i
   unfolding relocates
-  relocates-read s t r p e = rw (e, p, is)
+  relocates-read s t = rw (t, is)
 
   pub count-read : (size : ℕ) → size ≡ entrySize o F i → h .«sh_size» / size ≡ relocationCount o F i
   unfolding relocationCount
@@ -154,15 +179,14 @@ module _ (o : ByteOrder) (F : List ℕ) (t k : ℕ) where
   pub relocation-inside : Headed o F → Listed o F t k → section o F t .«sh_offset» + entrySize o F t * k + entrySize o F t ≤ length F
   relocation-inside s l = omega (arith, s .held t (l .table) (table-type o F t (l .kind)), listed-held l)
 
-  -- from a header in hand
-  module _ (h : SectionHeader) (rela : Bool) (size : ℕ) (is : h ≡ section o F t) (kind : rela ≡ isRela o F t) (wide : size ≡ entrySize o F t) where
-    pub inside-read : Headed o F → Listed o F t k → h .«sh_offset» + size * k + size ≤ length F
-    inside-read s l = rw (is, wide) (relocation-inside s l)
+  -- from where the entries start, in hand
+  module _ (at : ℕ) (rela : Bool) (size : ℕ) (is : at ≡ section o F t .«sh_offset») (kind : rela ≡ isRela o F t) (wide : size ≡ widthOf (relocationLayout rela)) where
+    size-read : size ≡ entrySize o F t
+    size-read = size-kind o F t rela size kind wide
 
-    pub width-read : size ≡ widthOf (relocationLayout rela)
-    unfolding entrySize
-    width-read = rw (wide, kind)
+    pub inside-read : Headed o F → Listed o F t k → at + size * k + size ≤ length F
+    inside-read s l = rw (is, size-read) (relocation-inside s l)
 
-    pub relocation-read : relocationAt o rela F (h .«sh_offset» + size * k) ≡ relocation o F t k
+    pub relocation-read : relocationAt o rela F (at + size * k) ≡ relocation o F t k
     unfolding relocation
-    relocation-read = rw (is, kind, wide)
+    relocation-read = rw (is, size-read, kind)

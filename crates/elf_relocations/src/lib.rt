@@ -3,6 +3,8 @@ ghost use mathlib.Core.Path.{_≡_};
 ghost use Prim.Native.Nat.{_+_, _*_, _≤_, _<_};
 ghost use lib.ListN.{length};
 ghost use Rattle.base_lists.specs.Ranges.{first};
+ghost use Rattle.base_fields.specs.Layouts.{widthOf};
+ghost use Rattle.elf_records.specs.Relocation.{relocationLayout};
 ghost use Rattle.elf_readers.specs.Readers.{sectionCount};
 ghost use Rattle.elf_readers.specs.Bounds.{Headed};
 ghost use Rattle.elf_symbols.specs.Symbols.{symtab};
@@ -16,8 +18,7 @@ pub fn is_rela(order: ByteOrder, file: &[u8], i: usize) -> bool
     requires { ⌜ Headed order (now file) × (i < sectionCount order (now file)) ⌝ }
     ensures { λ r. ⌜ r ≡ isRela order (now (file .entry)) i ⌝ }
 {
-    let h = elf_readers::section_at(order, file, i);
-    h.sh_type == base_scope::SHT_RELA
+    elf_readers::type_of(order, file, i) == base_scope::SHT_RELA
 }
 
 // Whether section i is a relocation table.
@@ -25,11 +26,18 @@ pub fn is_table(order: ByteOrder, file: &[u8], i: usize) -> bool
     requires { ⌜ Headed order (now file) × (i < sectionCount order (now file)) ⌝ }
     ensures { λ r. ⌜ r ≡ isTable order (now (file .entry)) i ⌝ }
 {
-    if is_rela(order, file, i) {
+    let kind = elf_readers::type_of(order, file, i);
+    if kind == base_scope::SHT_RELA {
         return true;
     }
-    let h = elf_readers::section_at(order, file, i);
-    h.sh_type == base_scope::SHT_REL
+    kind == base_scope::SHT_REL
+}
+
+// Bytes of an entry, with an addend or with none.
+fn width_of(rela: bool) -> usize
+    ensures { λ r. ⌜ (r ≡ widthOf (relocationLayout rela)) × (8 ≤ r) × (r ≤ 12) ⌝ }
+{
+    if rela { 12 } else { 8 }
 }
 
 // Bytes of an entry of table i.
@@ -37,7 +45,7 @@ pub fn entry_size(order: ByteOrder, file: &[u8], i: usize) -> usize
     requires { ⌜ Headed order (now file) × (i < sectionCount order (now file)) ⌝ }
     ensures { λ r. ⌜ (r ≡ entrySize order (now (file .entry)) i) × (8 ≤ r) × (r ≤ 12) ⌝ }
 {
-    if is_rela(order, file, i) { 12 } else { 8 }
+    width_of(is_rela(order, file, i))
 }
 
 // Whether table i has entries of its type's size, an existing section to apply to, and `symbols`, the symbol table, as its link.
@@ -85,8 +93,11 @@ fn is_table_for(order: ByteOrder, file: &[u8], s: usize, i: usize) -> bool
     requires { ⌜ Headed order (now file) × (i < sectionCount order (now file)) ⌝ }
     ensures { λ r. ⌜ r ≡ relocates order (now (file .entry)) s i ⌝ }
 {
-    let h = elf_readers::section_at(order, file, i);
-    base_scope::both(is_table(order, file, i), h.sh_info as usize == s)
+    if is_table(order, file, i) {
+        let h = elf_readers::section_at(order, file, i);
+        return h.sh_info as usize == s;
+    }
+    false
 }
 
 // The first relocation table for section s at or after i, or the section count.
@@ -120,8 +131,8 @@ pub fn relocation_at(order: ByteOrder, file: &[u8], t: usize, k: usize) -> Reloc
     requires { ⌜ Headed order (now file) × Listed order (now file) t k ⌝ }
     ensures { λ r. ⌜ r ≡ relocation order (now (file .entry)) t k ⌝ }
 {
-    let h = elf_readers::section_at(order, file, t);
-    let rela = is_rela(order, file, t);
-    let size = entry_size(order, file, t);
-    RelocationEntry::new(order, rela, file, h.sh_offset as usize + size * k)
+    let headers = elf_readers::header_place(order, file, 0);
+    let rela = elf_readers::section_type(order, file, headers, t) == base_scope::SHT_RELA;
+    let at = elf_readers::header_word(order, file, headers, t, 4) as usize;
+    RelocationEntry::new(order, rela, file, at + width_of(rela) * k)
 }

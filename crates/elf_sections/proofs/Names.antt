@@ -10,25 +10,24 @@ use Rattle.base_lists.specs.Ranges.{first}
 use Rattle.base_lists.specs.Strings.{hasEnd, nameAt, ascii}
 use Rattle.base_lists.proofs.Strings.{has-end-past}
 use Rattle.base_fields.specs.declared.ByteOrder.{ByteOrder}
-use Rattle.elf_records.specs.declared.section.SectionHeader.{SectionHeader}
 use Rattle.base_scope.specs.Codes.{codeType}
 use Rattle.elf_readers.specs.Readers.{header, sectionCount, section, isStrtab, sectionStrings, codedSection}
-use Rattle.elf_readers.proofs.Readers.{name-read, strtab-lt}
+use Rattle.elf_readers.proofs.Readers.{name-placed, strtab-lt}
 use Rattle.elf_sections.specs.Names.{nameSound, badName, nameFault, mistyped, codedAfter, Naming}
 use Rattle.base_scope.specs.declared.Finding.the-variants.{At}
 use Rattle.base_scope.specs.Refusals.{foundBelow}
 use Rattle.base_scope.proofs.Refusals.{expect-true, expect-false}
 
--- a section's name, with its header and the names' table in hand
-module _ (o : ByteOrder) (F s : List ℕ) (ends i : ℕ) (n : Naming o F s ends) (h : SectionHeader) (is : h ≡ section o F i) where
-  has-end : hasEnd (sectionStrings o F) (section o F i .«sh_name») ≡ ltb (h .«sh_name») ends
-  has-end = rw (← n .table, ← is, n .past) (has-end-past s (h .«sh_name»))
+-- a section's name, with its place and the names' table in hand
+module _ (o : ByteOrder) (F s : List ℕ) (ends i : ℕ) (n : Naming o F s ends) (at : ℕ) (is : at ≡ section o F i .«sh_name») where
+  has-end : hasEnd (sectionStrings o F) (section o F i .«sh_name») ≡ ltb at ends
+  has-end = rw (← n .table, ← is, n .past) (has-end-past s at)
 
-  pub name-ended : h .«sh_name» < ends → ascii (nameAt s (h .«sh_name»)) ≡ nameSound o F i
+  pub name-ended : at < ends → ascii (nameAt s at) ≡ nameSound o F i
   unfolding nameSound
-  name-ended l = rw (has-end, lt-ltb _ _ l, name-read o F i h s is (n .table))
+  name-ended l = rw (has-end, lt-ltb _ _ l, name-placed o F i at s is (n .table))
 
-  pub name-open : ends ≤ h .«sh_name» → false ≡ nameSound o F i
+  pub name-open : ends ≤ at → false ≡ nameSound o F i
   unfolding nameSound
   name-open l = rw (has-end, le-ltb _ _ l)
 
@@ -43,7 +42,7 @@ module _ (o : ByteOrder) (F : List ℕ) (i : ℕ) where
 
   -- the section k of code i + 1
   module _ (k : ℕ) (at : k ≡ codedAfter o F i) where
-    pub mistyped-there : (h : SectionHeader) (t : ℕ) → k < sectionCount o F → h ≡ section o F k → t ≡ codeType (i + 1) → not (eqb (h .«sh_type») t) ≡ mistyped o F i
+    pub mistyped-there : (h t : ℕ) → k < sectionCount o F → h ≡ section o F k .«sh_type» → t ≡ codeType (i + 1) → not (eqb h t) ≡ mistyped o F i
     unfolding mistyped codedAfter
     mistyped-there h t l e f = rw (e, f, at, lt-ltb (codedSection o F (i + 1)) (sectionCount o F) (rw at at l))
 

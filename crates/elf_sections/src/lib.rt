@@ -6,7 +6,7 @@ ghost use Prim.Native.Nat.{_+_, min, _≤_, _<_};
 ghost use lib.ListN.{length};
 ghost use Rattle.base_lists.specs.Ranges.{first};
 ghost use Rattle.base_scope.specs.Codes.{CODES};
-ghost use Rattle.elf_readers.specs.Readers.{sectionCount, sectionStrings};
+ghost use Rattle.elf_readers.specs.Readers.{sectionCount, headerPlace, sectionStrings};
 ghost use Rattle.elf_readers.specs.Bounds.{Headed, Named};
 ghost use Rattle.elf_sections.specs.Headers.{nullSectionSound, wholeEntries, bytesInside, headerSound, sectionSound, badSection, countSound, sectionFault};
 ghost use Rattle.elf_sections.specs.Names.{nameSound, badName, nameFault, mistyped, codedAfter, typeFault, Naming};
@@ -99,13 +99,19 @@ pub fn section_fault(order: ByteOrder, file: &[u8]) -> Finding
     Finding::At(0)
 }
 
-// Whether section i's name has a zero end and no byte over 127. `strings` is the names' table, `ends` one past its last zero byte.
-fn is_name_sound(order: ByteOrder, file: &[u8], strings: &[u8], ends: usize, i: usize) -> bool
-    requires { ⌜ Naming order (now file) (now strings) ends × (i < sectionCount order (now file)) ⌝ }
+// Whether section i's name has a zero end and no byte over 127. `headers` is where the headers start, `strings` the names' table, `ends` one past its last zero byte.
+fn is_name_sound(
+    order: ByteOrder,
+    file: &[u8],
+    headers: usize,
+    strings: &[u8],
+    ends: usize,
+    i: usize,
+) -> bool
+    requires { ⌜ Naming order (now file) (now strings) ends × (headers ≡ headerPlace order (now file) 0) × (i < sectionCount order (now file)) ⌝ }
     ensures { λ r. ⌜ r ≡ nameSound order (now (file .entry)) i ⌝ }
 {
-    let h = elf_readers::section_at(order, file, i);
-    let at = h.sh_name as usize;
+    let at = elf_readers::name_place(order, file, headers, i);
     if at < ends {
         return base_names::is_ascii(base_names::name_at(strings, at));
     }
@@ -117,12 +123,13 @@ fn first_bad_name(order: ByteOrder, file: &[u8]) -> usize
     requires { ⌜ Named order (now file) ⌝ }
     ensures { λ r. ⌜ r ≡ first (badName order (now (file .entry))) 0 (sectionCount order (now (file .entry))) ⌝ }
 {
+    let headers = elf_readers::header_place(order, file, 0);
     let strings = elf_readers::section_strings(order, file);
     let ends = base_names::past_last_zero(strings);
     let n = elf_readers::section_count(order, file);
     let mut i: usize = 0;
     while i < n {
-        if is_name_sound(order, file, strings, ends, i) {
+        if is_name_sound(order, file, headers, strings, ends, i) {
             i += 1;
         } else {
             return i;
@@ -151,8 +158,7 @@ fn is_mistyped(order: ByteOrder, file: &[u8], i: u32, k: usize) -> bool
     ensures { λ r. ⌜ r ≡ mistyped order (now (file .entry)) i ⌝ }
 {
     if k < elf_readers::section_count(order, file) {
-        let h = elf_readers::section_at(order, file, k);
-        return h.sh_type != base_scope::code_type(i + 1);
+        return elf_readers::type_of(order, file, k) != base_scope::code_type(i + 1);
     }
     false
 }

@@ -36,9 +36,9 @@ module _ (o : ByteOrder) (F : List ℕ) where
   symbol-read base k e = rw (e, symbol-place k)
 
   -- a section in hand is a symbol table
-  pub symtab-read : (i : ℕ) (h : SectionHeader) → h ≡ section o F i → eqb (h .«sh_type») SHT_SYMTAB ≡ isSymtab o F i
+  pub symtab-read : (i kind : ℕ) → kind ≡ section o F i .«sh_type» → eqb kind SHT_SYMTAB ≡ isSymtab o F i
   unfolding isSymtab
-  symtab-read i h is = rw is
+  symtab-read i kind is = rw is
 
   -- the search for the symbol table, from the equation of its ends
   pub symtab-found : (n k : ℕ) → n ≡ sectionCount o F → first (isSymtab o F) 0 n ≡ k → k ≡ symtab o F

@@ -2,19 +2,18 @@
 ghost use mathlib.Core.Path.{_≡_};
 ghost use Prim.Native.Nat.{_-_, _≤_, _<_};
 ghost use lib.ListN.{length, take, drop};
-ghost use Rattle.elf_readers.specs.Readers.{sectionCount};
+ghost use Rattle.elf_readers.specs.Readers.{sectionCount, headerPlace};
 ghost use Rattle.elf_readers.specs.Bounds.{Headed};
 ghost use Rattle.elf_symbols.specs.Symbols.{isSymtab, symtab, symbolCount, symbolPlace, symbol, symbolTable, symbolName, Tabled, Entries};
 use base_fields::ByteOrder;
 use elf_records::SymbolEntry;
 
-// Whether section i is a symbol table.
-fn is_symtab(order: ByteOrder, file: &[u8], i: usize) -> bool
-    requires { ⌜ Headed order (now file) × (i < sectionCount order (now file)) ⌝ }
+// Whether section i is a symbol table; `at` is where the headers start.
+fn is_symtab(order: ByteOrder, file: &[u8], at: usize, i: usize) -> bool
+    requires { ⌜ Headed order (now file) × (at ≡ headerPlace order (now file) 0) × (i < sectionCount order (now file)) ⌝ }
     ensures { λ r. ⌜ r ≡ isSymtab order (now (file .entry)) i ⌝ }
 {
-    let h = elf_readers::section_at(order, file, i);
-    h.sh_type == base_scope::SHT_SYMTAB
+    elf_readers::section_type(order, file, at, i) == base_scope::SHT_SYMTAB
 }
 
 // The first symbol table, or the section count.
@@ -22,10 +21,11 @@ pub fn symtab_index(order: ByteOrder, file: &[u8]) -> usize
     requires { ⌜ Headed order (now file) ⌝ }
     ensures { λ r. ⌜ r ≡ symtab order (now (file .entry)) ⌝ }
 {
+    let at = elf_readers::header_place(order, file, 0);
     let n = elf_readers::section_count(order, file);
     let mut i: usize = 0;
     while i < n {
-        if is_symtab(order, file, i) {
+        if is_symtab(order, file, at, i) {
             return i;
         }
         i += 1;

@@ -1,26 +1,23 @@
--- `base_names::has_zero` meets its contract: while no zero byte was seen, the name at `at` ends where the name behind the bytes passed over does. Assumes nothing.
+-- `base_names::has_zero` meets its contract: `hit` says of the bytes passed over whether the name ends among them. Assumes nothing.
 use borrow.Author.Needs.{needs}
 use native.Mathlib.Omega.{arith}
 use Prim.Native.Nat.{ℕ, _+_, _-_, _≤_}
-use mathlib.Core.Path.{_≡_, refl, ap, _∙_}
-use mathlib.Core.Bool.{false}
+use mathlib.Core.Path.{_≡_, ap, _∙_}
+use lib.Dec.{ltb}
 use denote.Ref.{now}
 use Rattle.base_lists.specs.Strings.{nameEnd}
-use Rattle.base_lists.proofs.Ranges.{both}
-use Rattle.base_lists.proofs.Strings.{end-next}
+use Rattle.base_names.proofs.Zeros.{zero-none, zero-seen, zero-unseen}
 use Rattle.base_names.proofs.has_zero.Statement.{statement}
 use Rattle.base_names.proofs.has_zero.Tie as tie
 
 abbrev Inv-loop : tie.InvT-loop
-Inv-loop t at hit₀ i₀ hit i = (i ≤ 16) × (hit ≡ false → nameEnd t at ≡ nameEnd t (at + i))
+Inv-loop t at n hit₀ i₀ hit i = (i ≤ n) × (hit ≡ ltb (nameEnd t at) (at + i))
 
 abbrev μ-loop : tie.MeasureT-loop
-μ-loop t at hit₀ i₀ hit i = 16 - i
+μ-loop t at n hit₀ i₀ hit i = n - i
 
 loop-holds : tie.Need-loop-holds Inv-loop μ-loop
-loop-holds c =
-    let e : c .args .at ≡ c .args .at + 0 = omega arith in
-    (omega arith, λ f. ap (nameEnd (now (c .args .t))) e)
+loop-holds c = (omega arith, zero-none (now (c .args .t)) (c .args .at))
 
 add-if1 : tie.Need-add-if1 Inv-loop μ-loop
 add-if1 c = search needs
@@ -35,7 +32,10 @@ loop-less : tie.Need-loop-less Inv-loop μ-loop
 loop-less c = search needs
 
 loop-again : tie.Need-loop-again Inv-loop μ-loop
-loop-again c = (omega arith, λ f. both refl f)
+loop-again c =
+    let a = c .before .before .before .before .args in
+    let l = c .before .before .before .loop in
+    (omega arith, zero-seen (now (a .t)) (a .at) (l .i) (c .if1 .taken))
 
 add-i-2 : tie.Need-add-i-2 Inv-loop μ-loop
 add-i-2 c = search needs
@@ -47,15 +47,14 @@ loop-again-2 : tie.Need-loop-again-2 Inv-loop μ-loop
 loop-again-2 c =
     let a = c .before .before .before .before .args in
     let l = c .before .before .before .loop in
-    let n : a .at + l .i + 1 ≡ a .at + (l .i + 1) = omega arith in
-    (omega arith, λ f. l .inv .1 f ∙ end-next (now (a .t)) (a .at + l .i) (omega arith) (c .if1 .left) ∙ ap (nameEnd (now (a .t))) n)
+    (omega arith, l .inv .1 ∙ zero-unseen (now (a .t)) (a .at) (l .i) (omega arith) (c .if1 .left))
 
 returns : tie.Need-returns Inv-loop μ-loop
 returns c =
     let a = c .before .before .args in
     let l = c .before .loop in
-    let e : l .i ≡ 16 = omega arith in
-    λ f. l .inv .1 f ∙ ap (λ (j : ℕ). nameEnd (now (a .t)) (a .at + j)) e
+    let e : l .i ≡ a .n = omega arith in
+    l .inv .1 ∙ ap (λ (j : ℕ). ltb (nameEnd (now (a .t)) (a .at)) (a .at + j)) e
 
 pub has-zero-spec : {M : Type 1} → statement M
 has-zero-spec =

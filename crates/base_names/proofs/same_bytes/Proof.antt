@@ -1,76 +1,49 @@
--- `base_names::same_bytes` meets its contract: strings of two lengths differ, and the bytes passed over are equal, so the strings are equal where
--- their rests from i on are, at first from the place that `near_difference` answers; each way out of the loop decides the rests. Assumes nothing.
-use borrow.Author.Needs.{needs}
+-- `base_names::same_bytes` meets its contract: strings of two lengths differ, and those of one length are compared, or empty. Assumes nothing.
 use native.Mathlib.Omega.{arith}
-use Prim.Native.Nat.{_-_}
-use mathlib.Core.Path.{_≡_, sym, _∙_}
-use lib.ListN.{length, drop}
+use mathlib.Core.Path.{sym}
 use denote.Ref.{now}
-use Rattle.base_lists.specs.Strings.{same}
-use Rattle.base_lists.proofs.Strings.{same-long, same-next, same-not, same-end}
+use borrow.Author.Needs.{needs}
 use Rattle.base_names.proofs.same_bytes.Statement.{statement}
 use Rattle.base_names.proofs.same_bytes.Tie as tie
+use Rattle.base_lists.proofs.Strings.{same-long, same-end}
 
-abbrev Inv-loop : tie.InvT-loop
-Inv-loop a b i₀ i = same a b ≡ same (drop i a) (drop i b)
-
-abbrev μ-loop : tie.MeasureT-loop
-μ-loop a b i₀ i = length a - i
-
-returns : tie.Need-returns Inv-loop μ-loop
+returns : tie.Need-returns
 returns c =
     let s = c .before .before .before .args in
     sym (same-long (now (s .a)) (now (s .b)) (c .if1 .taken))
 
-near-difference-requires : tie.Need-near-difference-requires Inv-loop μ-loop
-near-difference-requires c κs = omega arith
+is-same-by-requires : tie.Need-is-same-by-requires
+is-same-by-requires c κs = search needs
 
-loop-holds : tie.Need-loop-holds Inv-loop μ-loop
-loop-holds c = c .near-difference .ensures
+returns-2 : tie.Need-returns-2
+returns-2 c = c .is-same-by .ensures
 
-shared-slice-read-if2 : tie.Need-shared-slice-read-if2 Inv-loop μ-loop
-shared-slice-read-if2 c = search needs
+is-same-by-requires-2 : tie.Need-is-same-by-requires-2
+is-same-by-requires-2 c κs = search needs
 
-shared-slice-read-if2-2 : tie.Need-shared-slice-read-if2-2 Inv-loop μ-loop
-shared-slice-read-if2-2 c = search needs
+returns-3 : tie.Need-returns-3
+returns-3 c = c .is-same-by2 .ensures
 
-returns-2 : tie.Need-returns-2 Inv-loop μ-loop
-returns-2 c =
-    let s = c .before .before .before .before .before .before .before .before .before .args in
-    let l = c .before .before .before .before .loop in
-    sym (l .inv ∙ same-not (now (s .a)) (now (s .b)) (l .i) (omega arith) (omega arith) (c .if2 .taken))
+is-same-by-requires-3 : tie.Need-is-same-by-requires-3
+is-same-by-requires-3 c κs = search needs
 
-add-i : tie.Need-add-i Inv-loop μ-loop
-add-i c = search needs
+returns-4 : tie.Need-returns-4
+returns-4 c = c .is-same-by3 .ensures
 
-loop-less : tie.Need-loop-less Inv-loop μ-loop
-loop-less c = search needs
-
-loop-again : tie.Need-loop-again Inv-loop μ-loop
-loop-again c =
-    let s = c .before .before .before .before .before .before .before .before .before .args in
-    let l = c .before .before .before .before .loop in
-    l .inv ∙ same-next (now (s .a)) (now (s .b)) (l .i) (omega arith) (omega arith) (c .if2 .left)
-
-returns-3 : tie.Need-returns-3 Inv-loop μ-loop
-returns-3 c =
+returns-5 : tie.Need-returns-5
+returns-5 c =
     let s = c .before .before .before .before .before .before .args in
-    let l = c .before .loop in
-    sym (l .inv ∙ same-end (now (s .a)) (now (s .b)) (l .i) (omega arith) (omega arith))
+    sym (same-end (now (s .a)) (now (s .b)) 0 (omega arith) (omega arith))
 
 pub same-bytes-spec : {M : Type 1} → statement M
 same-bytes-spec =
     tie.close
     (tie.spec
-    Inv-loop
-    μ-loop
     returns
-    near-difference-requires
-    loop-holds
-    shared-slice-read-if2
-    shared-slice-read-if2-2
+    is-same-by-requires
     returns-2
-    add-i
-    loop-less
-    loop-again
-    returns-3)
+    is-same-by-requires-2
+    returns-3
+    is-same-by-requires-3
+    returns-4
+    returns-5)

@@ -21,18 +21,18 @@ hash-at-requires c κs =
 symbol-at-requires : tie.Need-symbol-at-requires
 symbol-at-requires c κs = search needs
 
-cast-joined-from : tie.Need-cast-joined-from
-cast-joined-from c = search needs
+cast-name-joined : tie.Need-cast-name-joined
+cast-name-joined c = search needs
 
-joined-from-requires : tie.Need-joined-from-requires
-joined-from-requires c κs = search needs
+name-joined-requires : tie.Need-name-joined-requires
+name-joined-requires c κs = search needs
 
 returns : tie.Need-returns
 returns c =
     let b = c .before .before .before .before .before .before .before .before .before .before in
     let a = b .args in
     let s = c .before .before .symbol-at in
-    c .joined-from .ensures ∙ named-read (a .order) (now (a .file)) (a .k) (s .result) (now (a .strings)) (s .ensures) (b .pre .0 .names) (now (a .front) ++ now (a .back))
+    c .name-joined .ensures ∙ named-read (a .order) (now (a .file)) (a .k) (s .result) (now (a .strings)) (s .ensures) (b .pre .0 .names) (now (a .front) ++ now (a .back))
 
 returns-2 : tie.Need-returns-2
 returns-2 c =
@@ -50,7 +50,7 @@ is-joined-spec =
     (tie.spec
     hash-at-requires
     symbol-at-requires
-    cast-joined-from
-    joined-from-requires
+    cast-name-joined
+    name-joined-requires
     returns
     returns-2)

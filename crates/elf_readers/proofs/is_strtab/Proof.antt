@@ -9,13 +9,13 @@ use Rattle.elf_readers.proofs.is_strtab.Tie as tie
 section-count-requires : tie.Need-section-count-requires
 section-count-requires c κs = search needs
 
-section-at-requires : tie.Need-section-at-requires
-section-at-requires c κs = search needs
+type-of-requires : tie.Need-type-of-requires
+type-of-requires c κs = search needs
 
 returns : tie.Need-returns
 returns c =
-    let a = c .before .before .before .before .before .args in
-    strtab-there (a .order) (now (a .file)) (a .i) _ (c .before .section-at .ensures) (omega arith)
+    let a = c .before .before .before .before .args in
+    strtab-there (a .order) (now (a .file)) (a .i) _ (c .type-of .ensures) (omega arith)
 
 returns-2 : tie.Need-returns-2
 returns-2 c =
@@ -23,4 +23,4 @@ returns-2 c =
     strtab-past (a .order) (now (a .file)) (a .i) (omega arith)
 
 pub is-strtab-spec : {M : Type 1} → statement M
-is-strtab-spec = tie.close (tie.spec section-count-requires section-at-requires returns returns-2)
+is-strtab-spec = tie.close (tie.spec section-count-requires type-of-requires returns returns-2)

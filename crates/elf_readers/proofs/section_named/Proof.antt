@@ -11,10 +11,13 @@ use Rattle.elf_readers.proofs.section_named.Statement.{statement}
 use Rattle.elf_readers.proofs.section_named.Tie as tie
 
 abbrev Inv-loop : tie.InvT-loop
-Inv-loop order file name strings n i₀ i = (i ≤ n) × (first (hasName order file name) 0 n ≡ first (hasName order file name) i n)
+Inv-loop order file name at strings n i₀ i = (i ≤ n) × (first (hasName order file name) 0 n ≡ first (hasName order file name) i n)
 
 abbrev μ-loop : tie.MeasureT-loop
-μ-loop order file name strings n i₀ i = n - i
+μ-loop order file name at strings n i₀ i = n - i
+
+header-place-requires : tie.Need-header-place-requires Inv-loop μ-loop
+header-place-requires c κs = search needs
 
 section-strings-requires : tie.Need-section-strings-requires Inv-loop μ-loop
 section-strings-requires c κs = search needs
@@ -26,13 +29,17 @@ loop-holds : tie.Need-loop-holds Inv-loop μ-loop
 loop-holds c = (omega arith, refl)
 
 has-name-requires : tie.Need-has-name-requires Inv-loop μ-loop
-has-name-requires c κs =
-    (c .before .before .before .before .before .before .pre .headed, c .before .before .before .section-strings .ensures, omega arith)
+has-name-requires c κs = (
+  c .before .before .before .before .before .before .before .pre .headed,
+  c .before .before .before .before .header-place .ensures .0,
+  c .before .before .before .section-strings .ensures,
+  omega arith,
+)
 
 returns : tie.Need-returns Inv-loop μ-loop
 unfolding sectionNamed
 returns c =
-    let a = c .before .before .before .before .before .before .before .before .args in
+    let a = c .before .before .before .before .before .before .before .before .before .args in
     let l = c .before .before .before .loop in
     let p = hasName (a .order) (now (a .file)) (now (a .name)) in
     let n = c .before .before .before .before .section-count .result in
@@ -46,7 +53,7 @@ loop-less c = omega arith
 
 loop-again : tie.Need-loop-again Inv-loop μ-loop
 loop-again c =
-    let a = c .before .before .before .before .before .before .before .before .args in
+    let a = c .before .before .before .before .before .before .before .before .before .args in
     let l = c .before .before .before .loop in
     let p = hasName (a .order) (now (a .file)) (now (a .name)) in
     let n = c .before .before .before .before .section-count .result in
@@ -55,7 +62,7 @@ loop-again c =
 returns-2 : tie.Need-returns-2 Inv-loop μ-loop
 unfolding sectionNamed
 returns-2 c =
-    let a = c .before .before .before .before .before .before .args in
+    let a = c .before .before .before .before .before .before .before .args in
     let l = c .before .loop in
     let p = hasName (a .order) (now (a .file)) (now (a .name)) in
     let n = c .before .before .section-count .result in
@@ -68,6 +75,7 @@ section-named-spec =
     (tie.spec
     Inv-loop
     μ-loop
+    header-place-requires
     section-strings-requires
     section-count-requires
     loop-holds

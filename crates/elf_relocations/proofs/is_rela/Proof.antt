@@ -1,17 +1,17 @@
--- The type in the section's header is compared. Assumes nothing.
-use Rattle.elf_relocations.proofs.Relocations.{rela-read}
+-- The type of the section is compared. Assumes nothing.
+use Rattle.elf_relocations.proofs.Relocations.{rela-kind}
 use denote.Ref.{now}
 use borrow.Author.Needs.{needs}
 use Rattle.elf_relocations.proofs.is_rela.Statement.{statement}
 use Rattle.elf_relocations.proofs.is_rela.Tie as tie
 
-section-at-requires : tie.Need-section-at-requires
-section-at-requires c κs = search needs
+type-of-requires : tie.Need-type-of-requires
+type-of-requires c κs = search needs
 
 returns : tie.Need-returns
 returns c =
-    let a = c .before .before .before .args in
-    rela-read (a .order) (now (a .file)) (a .i) _ (c .before .section-at .ensures)
+    let a = c .before .before .args in
+    rela-kind (a .order) (now (a .file)) (a .i) _ (c .type-of .ensures)
 
 pub is-rela-spec : {M : Type 1} → statement M
-is-rela-spec = tie.close (tie.spec section-at-requires returns)
+is-rela-spec = tie.close (tie.spec type-of-requires returns)

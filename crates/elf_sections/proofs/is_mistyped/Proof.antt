@@ -9,8 +9,8 @@ use Rattle.elf_sections.proofs.is_mistyped.Tie as tie
 section-count-requires : tie.Need-section-count-requires
 section-count-requires c κs = search needs
 
-section-at-requires : tie.Need-section-at-requires
-section-at-requires c κs = search needs
+type-of-requires : tie.Need-type-of-requires
+type-of-requires c κs = search needs
 
 add-code-type : tie.Need-add-code-type
 add-code-type c = search needs
@@ -20,9 +20,9 @@ code-type-requires c κs = search needs
 
 returns : tie.Need-returns
 returns c =
-    let a = c .before .before .before .before .before .before .args in
-    let q = c .before .before .before .before .before .before .pre in
-    mistyped-there (a .order) (now (a .file)) (a .i) (a .k) (q .2) _ _ (omega arith) (c .before .before .section-at .ensures) (c .before .code-type .ensures)
+    let a = c .before .before .before .before .before .args in
+    let q = c .before .before .before .before .before .pre in
+    mistyped-there (a .order) (now (a .file)) (a .i) (a .k) (q .2) _ _ (omega arith) (c .before .type-of .ensures) (c .code-type .ensures)
 
 returns-2 : tie.Need-returns-2
 returns-2 c =
@@ -35,7 +35,7 @@ is-mistyped-spec =
     tie.close
     (tie.spec
     section-count-requires
-    section-at-requires
+    type-of-requires
     add-code-type
     code-type-requires
     returns

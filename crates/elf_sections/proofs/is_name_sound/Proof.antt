@@ -7,11 +7,8 @@ use borrow.Author.Needs.{needs}
 use Rattle.elf_sections.proofs.is_name_sound.Statement.{statement}
 use Rattle.elf_sections.proofs.is_name_sound.Tie as tie
 
-section-at-requires : tie.Need-section-at-requires
-section-at-requires c κs = search needs
-
-cast-at : tie.Need-cast-at
-cast-at c = search needs
+name-place-requires : tie.Need-name-place-requires
+name-place-requires c κs = search needs
 
 name-at-requires : tie.Need-name-at-requires
 name-at-requires c κs = search needs
@@ -21,17 +18,17 @@ is-ascii-requires c κs = search needs
 
 returns : tie.Need-returns
 returns c =
-    let a = c .before .before .before .before .before .before .before .args in
-    let q = c .before .before .before .before .before .before .before .pre in
-    c .is-ascii .ensures ∙ ap ascii (c .before .name-at .ensures) ∙ name-ended (a .order) (now (a .file)) (now (a .strings)) (a .ends) (a .i) (q .0) _ (c .before .before .before .before .section-at .ensures) (c .before .before .if1 .taken)
+    let a = c .before .before .before .before .before .before .args in
+    let q = c .before .before .before .before .before .before .pre in
+    c .is-ascii .ensures ∙ ap ascii (c .before .name-at .ensures) ∙ name-ended (a .order) (now (a .file)) (now (a .strings)) (a .ends) (a .i) (q .0) _ (c .before .before .before .name-place .ensures) (c .before .before .if1 .taken)
 
 returns-2 : tie.Need-returns-2
 returns-2 c =
-    let a = c .before .before .before .before .before .args in
-    let q = c .before .before .before .before .before .pre in
-    name-open (a .order) (now (a .file)) (now (a .strings)) (a .ends) (a .i) (q .0) _ (c .before .before .section-at .ensures) (c .if1 .left)
+    let a = c .before .before .before .before .args in
+    let q = c .before .before .before .before .pre in
+    name-open (a .order) (now (a .file)) (now (a .strings)) (a .ends) (a .i) (q .0) _ (c .before .name-place .ensures) (c .if1 .left)
 
 pub is-name-sound-spec : {M : Type 1} → statement M
 is-name-sound-spec =
     tie.close
-    (tie.spec section-at-requires cast-at name-at-requires is-ascii-requires returns returns-2)
+    (tie.spec name-place-requires name-at-requires is-ascii-requires returns returns-2)

@@ -12,10 +12,13 @@ use Rattle.elf_symbols.proofs.symtab_index.Statement.{statement}
 use Rattle.elf_symbols.proofs.symtab_index.Tie as tie
 
 abbrev Inv-loop : tie.InvT-loop
-Inv-loop order file n i₀ i = (i ≤ n) × (first (isSymtab order file) 0 n ≡ first (isSymtab order file) i n)
+Inv-loop order file at n i₀ i = (i ≤ n) × (first (isSymtab order file) 0 n ≡ first (isSymtab order file) i n)
 
 abbrev μ-loop : tie.MeasureT-loop
-μ-loop order file n i₀ i = n - i
+μ-loop order file at n i₀ i = n - i
+
+header-place-requires : tie.Need-header-place-requires Inv-loop μ-loop
+header-place-requires c κs = search needs
 
 section-count-requires : tie.Need-section-count-requires Inv-loop μ-loop
 section-count-requires c κs = search needs
@@ -28,7 +31,7 @@ is-symtab-requires c κs = search needs
 
 returns : tie.Need-returns Inv-loop μ-loop
 returns c =
-    let a = c .before .before .before .before .before .before .args in
+    let a = c .before .before .before .before .before .before .before .args in
     let l = c .before .before .before .loop in
     let n = c .before .before .before .before .section-count in
     symtab-found (a .order) (now (a .file)) (n .result) (l .i) (n .ensures .0) (l .inv .1 ∙ first-here (isSymtab (a .order) (now (a .file))) (l .i) (n .result) (omega arith) (sym (c .before .is-symtab .ensures) ∙ c .if1 .taken))
@@ -41,14 +44,14 @@ loop-less c = omega arith
 
 loop-again : tie.Need-loop-again Inv-loop μ-loop
 loop-again c =
-    let a = c .before .before .before .before .before .before .args in
+    let a = c .before .before .before .before .before .before .before .args in
     let l = c .before .before .before .loop in
     let n = c .before .before .before .before .section-count in
     (omega arith, l .inv .1 ∙ first-next (isSymtab (a .order) (now (a .file))) (l .i) (n .result) (omega arith) (sym (c .before .is-symtab .ensures) ∙ c .if1 .left))
 
 returns-2 : tie.Need-returns-2 Inv-loop μ-loop
 returns-2 c =
-    let a = c .before .before .before .before .args in
+    let a = c .before .before .before .before .before .args in
     let l = c .before .loop in
     let n = c .before .before .section-count in
     let e : l .i ≡ n .result = omega arith in
@@ -60,6 +63,7 @@ symtab-index-spec =
     (tie.spec
     Inv-loop
     μ-loop
+    header-place-requires
     section-count-requires
     loop-holds
     is-symtab-requires
