@@ -70,6 +70,7 @@ class Twin:
                 self.lent.add(name)
             text = self.function(home, name, whole)
         self.items[crate, name] = text
+        # constants, and functions that are called: `NAME`, `crate::NAME`, `name(`, `crate::name(`
         for other, used in re.findall(r"(?<!\.)(?:\b(\w+)::)?\b([A-Z][A-Z_]+|[a-z]\w*(?=\())(?!\w)", text.split("fn " + name, 1)[-1]):
             self.add(other or crate, used)
 
@@ -111,11 +112,11 @@ ROW = "T·.the-row"
 LAWS = "T·.the-type L·.the-laws"
 COPY = "T·.the-type L·.the-copy"
 COPIES = f"K·.cStruct {LAWS} L·.the-copy"
-MOVES = "(λ x. x) (λ x. x)"
+SAME = "(λ x. x)"
 VALUE = (f"record {{ ty = {ROW}; one = P·.refl; val = S·.val {LAWS}; tells = S·.tells {LAWS}; still = S·.still {COPY} E·.yes; row = R·.whole {ROW}; rd = λ x. x; mk = λ x. x; }} "
          f"(λ M {WORLD}. record {{ copies = S·.copy {COPY} {WORLD}; lawful = S·.lawful {LAWS} {WORLD}; makes = S·.makes T·.the-type L·.the-plain 𝓤 H A; "
          f"in-mem = C·.mem-whole {WORLD} {ROW}; of-mem = C·.whole-mem {WORLD} {ROW}; }})")
-YIELDS = (f"Y·.yields-copy {WORLD} (λ ρ. Unit) {ROW} P·.refl ({COPIES} .copy {WORLD}) (R·.whole {ROW}) {MOVES} "
+YIELDS = (f"Y·.yields-copy {WORLD} (λ ρ. Unit) {ROW} P·.refl ({COPIES} .copy {WORLD}) (R·.whole {ROW}) {SAME} {SAME} "
           f"(λ ρ told. C·.mem-whole {WORLD} {ROW} ρ) (λ ρ told. C·.whole-mem {WORLD} {ROW} ρ)")
 
 
@@ -123,7 +124,7 @@ def exchanges(words):
     """Terms of the twin's derivation, each with what stands for it at the record. `_` is any one argument; a later rule sees what the earlier ones left."""
     word, ints = "(Referent.rtF (Referent.fInt Syntax.w32))", "(Array.eInt Syntax.w32)"
     array, laws = f"(Syntax.tyArray (Syntax.tyInt Syntax.w32) {words})", f"{ints} (Array.eInt-laws Syntax.w32) {words}"
-    zeros = "(" + "(0, " * words + "tt" + ")" * words
+    zeros = "(0, " * words + "tt" + ")" * words
     return [
         # the type in MIR: behind a reference a name, else spelled out
         (f"Syntax.tyRef _ _ {array}", r"Syntax.tyRef \1 \2 N·.name"),
@@ -146,7 +147,7 @@ def exchanges(words):
         (f"Array'.Array {word} {words}", ROW),
         (f"(Array.Array {word} {words})", ROW),
         # what a read past the end would give
-        (f"{MOVES[:9]} List.[] (λ x. Unit)", f"{MOVES[:9]} (T·.struct .make {zeros}) tt) (λ x. Unit)"),
+        (f"{SAME} List.[] (λ x. Unit)", f"{SAME} (T·.struct .make {zeros} tt) (λ x. Unit)"),
         # clauses: none, or one fact
         ("(requires a g) (λ w. search Read.reads)", "(requires a g) (λ w. Read.r-top)"),
         ("(λ w. search Read.reads)", "(λ w. Read.r-last _)"),

@@ -1,6 +1,6 @@
 // What each section of a merged object holds, appended, and how long it is; the headers of C's sections that stay, and where the names of new sections stand (crate write_plan,
 // specs/Plan.antt), by what is in hand behind the symbol merge and carrying (specs/Held.antt). Each appending function says `Written` of its definition: bytes that do not fit
-// are counted and not written. Spans of a section are gathered over the index, and all else in it stays (`SpansOver`; proofs/Held.antt, `held-still`).
+// are counted and not written. What is read of the index stays as it is (`SpansOver`; proofs/Held.antt, `held-still`).
 ghost use mathlib.Core.Path.{_≡_};
 ghost use mathlib.Core.Bool.{true, not, _||_};
 ghost use mathlib.Core.List.{_++_};
