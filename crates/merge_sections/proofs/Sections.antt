@@ -1,18 +1,18 @@
 -- What 11 to 13 leave is what the late step, block copying and the late moves ask for. Assumes nothing.
 use mathlib.Core.Path.{_≡_, refl, sym, ap, _∙_}
-use mathlib.Core.Bool.{Bool, true, false}
+use mathlib.Core.Bool.{true, false}
 use mathlib.Core.List.{List}
-use Prim.Native.Nat.{ℕ, _+_, _-_, _≤_, _<_}
+use Prim.Native.Nat.{ℕ, _+_, _≤_}
 use native.Mathlib.Omega.{arith}
 use lib.ListN.{length, take, drop}
+use lib.Seq.{length-take-le}
 use Rattle.base_lists.specs.Windows.{spliced}
 use Rattle.base_lists.proofs.Ranges.{both, by-lt}
 use Rattle.base_fields.specs.declared.ByteOrder.{ByteOrder}
 use Rattle.base_scope.specs.Codes.{LATE-RODATA, LATE_TARGET, REGINFO, CODES, holdsBytes, isLateTarget, sectionCodes}
-use Rattle.base_scope.specs.Limits.{FILE_LIMIT, SPAN_TABLE, LATE_TABLE}
+use Rattle.base_scope.specs.Limits.{FILE_LIMIT, LATE_TABLE}
 use Rattle.base_scope.specs.declared.Finding.{Finding}
 use Rattle.base_scope.specs.declared.Finding.the-variants.{Clear}
-use Rattle.base_scope.specs.Refusals.{pickFinding, foundBelow}
 use Rattle.base_scope.proofs.Codes.{past-holds, late-target}
 use Rattle.elf_readers.specs.Readers.{codedContents}
 use Rattle.elf_readers.proofs.Readers.{coded-short}
@@ -21,31 +21,23 @@ use Rattle.blocks_places.specs.Lines.{lineCount}
 use Rattle.blocks_places.specs.Places.{Place}
 use Rattle.blocks_places.specs.Faults.{Fitting}
 use Rattle.blocks_places.specs.Table.{placesIn}
-use Rattle.blocks_items.specs.Items.{lateLength}
 use Rattle.blocks_spans.specs.declared.Span.{Span}
 use Rattle.blocks_spans.specs.Spans.{spansOf, lastEnd, EndsBy}
 use Rattle.blocks_spans.specs.Copied.{copied}
-use Rattle.blocks_spans.specs.Table.{spansIn, Rows, Gathered}
 use Rattle.blocks_spans.proofs.Spans.{end-spans, spans-ascend, span-last, last-by}
-use Rattle.blocks_spans.proofs.Table.{gathered-is, rows-of}
 use Rattle.copy_registers.proofs.Reginfo.{length-joined}
-use Rattle.copy_sections.specs.Pieces.{InRows}
+use Rattle.copy_spans.proofs.Records.{copied-front}
 use Rattle.late_length.specs.declared.LateStep.{LateStep}
 use Rattle.late_length.specs.Late.{hasLateStep}
-use Rattle.late_moves.specs.Moves.{lateStepFault}
 use Rattle.late_moves.specs.Moved.{lateRodata}
-use Rattle.late_walk.specs.Table.{Ready, Walk, Moves}
+use Rattle.late_walk.specs.Table.{Ready, Walk}
 use Rattle.late_walk.proofs.Walk.{moves-of}
 use Rattle.late_laws.proofs.Copied.{fault-copied, rodata-written}
 use Rattle.late_rodata.specs.Writing.{restRead, Moving, RestInHand}
 use Rattle.late_rodata.proofs.Writing.{rest-read}
-use Rattle.late_finals.specs.Finals.{finalBytes}
 use Rattle.late_finals.proofs.Finals.{final-late, final-other, final-still, final-length}
-use Rattle.merge_inputs.specs.Taken.{InputsRead}
-use Rattle.merge_missing.specs.Complete.{Complete}
 use Rattle.merge_labels.specs.Labels.{lateStart}
 use Rattle.merge_line_up.specs.LineUp.{lateStepOf}
-use Rattle.merge_line_up.specs.Agrees.{Agrees}
 use Rattle.merge_sections.specs.declared.Stage.{Stage}
 use Rattle.merge_sections.specs.Sections.{stepFinding, lateFinding, resultSection, registerBytes}
 use Rattle.merge_sections.specs.Stages.{StageRead, Searchable, Movable, Searched}
@@ -65,23 +57,13 @@ pub target-holds : holdsBytes LATE_TARGET ≡ true
 unfolding holdsBytes sectionCodes
 target-holds = refl
 
--- ---- the rows of a section's spans in hand
-
-module _ (P : List Place) (B S T : List ℕ) (f : Fitting P B) (c n : ℕ) (before rows : List ℕ) (room : SPAN_TABLE ≤ length before) (g : Gathered (spansOf P B c) n before rows) where
-  pub in-rows : (size : ℕ) → size ≤ length S → EndsBy (spansOf P B c) size → EndsBy (spansOf P B c) (length T) → InRows rows n S T size
-  in-rows size few target source = record {
-    rows-are = rows-of P B f c n before rows room g;
-    few = few;
-    target = rw (gathered-is P B f c n before rows room g) target;
-    source = rw (gathered-is P B f c n before rows room g) source;
-  }
-
-  pub copied-rows : copied (spansIn rows n) S T ≡ copied (spansOf P B c) S T
-  copied-rows = ap (λ (L : List Span). copied L S T) (gathered-is P B f c n before rows room g)
-
 -- no span ends behind the last one
 pub ends-last : (P : List Place) (B : List ℕ) → Fitting P B → (c last : ℕ) → last ≡ lastEnd (spansOf P B c) → EndsBy (spansOf P B c) last
 ends-last P B f c last e r h = rw e (span-last (spansOf P B c) (spans-ascend P B f c) r h)
+
+-- the first bytes of a section up to there
+pub front-ends : (L : List Span) (own : List ℕ) (last : ℕ) → last ≤ length own → EndsBy L last → EndsBy L (length (take last own))
+front-ends L own last few ends = rw (length-take-le last own few) ends
 
 -- ---- what 11 to 13 leave
 
@@ -204,14 +186,14 @@ module _ (C B : List ℕ) (s : Stage) (table places : List ℕ) (w : Searchable 
 
 -- ---- the bytes as they are read
 
--- block copying of what is read is that of the sections
-pub copied-as : (before : List ℕ) (at : ℕ) (L M : List Span) (own other S T after : List ℕ) → copied L own other ≡ copied M own other → own ≡ S → other ≡ T
-    → after ≡ spliced before at (copied L own other) → after ≡ spliced before at (copied M S T)
-copied-as before at L M own other S T after g e f is = is ∙ ap (spliced before at) (g ∙ ap (λ (x : List ℕ). copied M x other) e ∙ ap (copied M S) f)
+-- block copying of what is read is that of the sections; of the first n bytes it is the front of that
+pub copied-as : (before : List ℕ) (at : ℕ) (L : List Span) (own other S T after : List ℕ) → own ≡ S → other ≡ T → after ≡ spliced before at (copied L own other)
+    → after ≡ spliced before at (copied L S T)
+copied-as before at L own other S T after e f is = is ∙ ap (spliced before at) (ap (λ (x : List ℕ). copied L x other) e ∙ ap (copied L S) f)
 
-pub front-as : (before : List ℕ) (at n : ℕ) (L M : List Span) (own other S T after : List ℕ) → copied L own other ≡ copied M own other → own ≡ S → other ≡ T
-    → after ≡ spliced before at (take n (copied L own other)) → after ≡ spliced before at (take n (copied M S T))
-front-as before at n L M own other S T after g e f is = is ∙ ap (λ (x : List ℕ). spliced before at (take n x)) (g ∙ ap (λ (x : List ℕ). copied M x other) e ∙ ap (copied M S) f)
+pub front-as : (before : List ℕ) (at n : ℕ) (L : List Span) (own other S T after : List ℕ) → own ≡ S → other ≡ T → n ≤ length S → after ≡ spliced before at (copied L (take n own) other)
+    → after ≡ spliced before at (take n (copied L S T))
+front-as before at n L own other S T after e f few is = copied-as before at L (take n own) other (take n S) T after (ap (take n) e) f is ∙ ap (spliced before at) (copied-front L S T n few)
 
 pub rest-as : (mid after : List ℕ) (at last : ℕ) (o : ByteOrder) (B own words S W late : List ℕ) (n : ℕ) → own ≡ S → words ≡ W
     → after ≡ spliced mid (at + last) (restRead o B own words late n last) → after ≡ spliced mid (at + last) (restRead o B S W late n last)

@@ -7,7 +7,7 @@ ghost use Prim.Native.Nat.{_+_, _≤_};
 ghost use lib.ListN.{length};
 ghost use Rattle.base_lists.specs.Windows.{spliced};
 ghost use Rattle.base_scope.specs.Codes.{LATE_TARGET, REGINFO, holdsBytes};
-ghost use Rattle.base_scope.specs.Limits.{LATE_TABLE, SPAN_TABLE};
+ghost use Rattle.base_scope.specs.Limits.{LATE_TABLE};
 ghost use Rattle.elf_readers.specs.Readers.{codedContents};
 ghost use Rattle.elf_check.specs.View.{Viewed};
 ghost use Rattle.blocks_places.specs.Lines.{lineCount};
@@ -52,7 +52,7 @@ pub fn late_fault(
     Finding::Clear
 }
 
-// Writes C's section of a code after block copying at `at`, and answers where it ends. `rows` need no particular contents.
+// Writes C's section of a code after block copying at `at`, and answers where it ends.
 pub fn write_section(
     out: &mut [u8],
     at: usize,
@@ -63,11 +63,10 @@ pub fn write_section(
     places: &[u8],
     inputs: Inputs,
     code: u32,
-    rows: &mut [u8],
 ) -> usize
     requires { ⌜ InputsRead (now compiled) (now assembled) (now file) inputs (now table) (now places)
         × Complete (inputs .order) (now compiled) (now assembled) (placesIn (now places) (lineCount (now file))) (now file) × (holdsBytes code ≡ true)
-        × (at + length (codedContents (inputs .order) (now compiled) code) ≤ length (now out)) × (SPAN_TABLE ≤ length (now rows)) ⌝ }
+        × (at + length (codedContents (inputs .order) (now compiled) code) ≤ length (now out)) ⌝ }
     ensures { λ r. ⌜ (r ≡ at + length (codedContents (inputs .order) (now (compiled .entry)) code))
         × (now (out .exit) ≡ spliced (now (out .entry)) at (copied (spansOf (placesIn (now (places .entry)) (lineCount (now (file .entry)))) (now (file .entry)) code) (codedContents (inputs .order) (now (compiled .entry)) code) (codedContents (inputs .order) (now (assembled .entry)) code))) ⌝ }
 {
@@ -77,8 +76,7 @@ pub fn write_section(
     let other = inputs.assembled;
     let source = elf_check::coded_contents(order, assembled, other, code);
     let blocks = inputs.blocks;
-    let n = blocks_spans::gather_spans(file, table, places, blocks, code, rows);
-    copy_sections::write_copied(out, at, rows, n, target, source);
+    copy_spans::write_copied(out, at, file, table, places, blocks, code, target, source);
     at + target.len()
 }
 
@@ -93,10 +91,9 @@ pub fn write_late_target(
     places: &[u8],
     stage: Stage,
     late: &[u8],
-    rows: &mut [u8],
 ) -> usize
     requires { ⌜ StageRead (now compiled) (now assembled) (now file) stage (now table) (now places) × Movable (now compiled) (now file) stage (placesIn (now places) (lineCount (now file))) (now late)
-        × (at + length (codedContents (stage .inputs .order) (now compiled) LATE_TARGET) ≤ length (now out)) × (SPAN_TABLE ≤ length (now rows)) ⌝ }
+        × (at + length (codedContents (stage .inputs .order) (now compiled) LATE_TARGET) ≤ length (now out)) ⌝ }
     ensures { λ r. ⌜ (r ≡ at + length (codedContents (stage .inputs .order) (now (compiled .entry)) LATE_TARGET))
         × (now (out .exit) ≡ spliced (now (out .entry)) at (resultSection (stage .inputs .order) (now (compiled .entry)) (now (assembled .entry)) (placesIn (now (places .entry)) (lineCount (now (file .entry)))) (now (file .entry)) LATE_TARGET)) ⌝ }
 {
@@ -110,16 +107,10 @@ pub fn write_late_target(
         let source = elf_check::coded_contents(order, assembled, other, base_scope::LATE_TARGET);
         let words = elf_check::coded_contents(order, assembled, other, base_scope::LATE_RODATA);
         let blocks = inputs.blocks;
-        let n = blocks_spans::gather_spans(
-            file,
-            table,
-            places,
-            blocks,
-            base_scope::LATE_TARGET,
-            rows,
-        );
         let last = step.last;
-        copy_sections::write_front(out, at, rows, n, target, source, last);
+        let front = &target[..last];
+        let code = base_scope::LATE_TARGET;
+        copy_spans::write_copied(out, at, file, table, places, blocks, code, front, source);
         late_rodata::write_rest(
             out,
             at,
@@ -144,7 +135,6 @@ pub fn write_late_target(
         places,
         inputs,
         base_scope::LATE_TARGET,
-        rows,
     )
 }
 

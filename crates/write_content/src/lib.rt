@@ -6,7 +6,7 @@ ghost use lib.ListN.{length};
 ghost use Rattle.base_lists.specs.Windows.{spliced};
 ghost use Rattle.base_lists.specs.Written.{Written};
 ghost use Rattle.base_scope.specs.Codes.{BSS};
-ghost use Rattle.base_scope.specs.Limits.{FILE_LIMIT, ID_LIMIT, SPAN_TABLE};
+ghost use Rattle.base_scope.specs.Limits.{FILE_LIMIT, ID_LIMIT};
 ghost use Rattle.elf_readers.specs.Readers.{sectionCount, contents, codedContents};
 ghost use Rattle.elf_readers.specs.Bounds.{Headed};
 ghost use Rattle.elf_check.specs.View.{Viewed};
@@ -65,12 +65,11 @@ fn write_coded(
     places: &[u8],
     stage: Stage,
     late: &[u8],
-    rows: &mut [u8],
     code: u32,
 )
     requires { ⌜ StageRead (now compiled) (now assembled) (now file) stage (now table) (now places)
         × Movable (now compiled) (now file) stage (placesIn (now places) (lineCount (now file))) (now late)
-        × (at + length (codedContents (stage .inputs .order) (now compiled) code) ≤ length (now out)) × (SPAN_TABLE ≤ length (now rows)) × (1 ≤ code) × (code < BSS) ⌝ }
+        × (at + length (codedContents (stage .inputs .order) (now compiled) code) ≤ length (now out)) × (1 ≤ code) × (code < BSS) ⌝ }
     ensures { λ _. ⌜ now (out .exit) ≡ spliced (now (out .entry)) at
         (resultSection (stage .inputs .order) (now (compiled .entry)) (now (assembled .entry)) (placesIn (now (places .entry)) (lineCount (now (file .entry))))
         (now (file .entry)) code) ⌝ }
@@ -86,7 +85,6 @@ fn write_coded(
             places,
             stage,
             late,
-            rows,
         );
         return;
     }
@@ -101,11 +99,10 @@ fn write_coded(
         places,
         inputs,
         code,
-        rows,
     );
 }
 
-// Appends C's section of a code after block copying and, in the late target, the late moves. `rows` need no particular contents.
+// Appends C's section of a code after block copying and, in the late target, the late moves.
 pub fn append_copied(
     out: &mut [u8],
     at: u64,
@@ -116,12 +113,11 @@ pub fn append_copied(
     places: &[u8],
     stage: Stage,
     late: &[u8],
-    rows: &mut [u8],
     code: u32,
 ) -> u64
     requires { ⌜ StageRead (now compiled) (now assembled) (now file) stage (now table) (now places)
         × Movable (now compiled) (now file) stage (placesIn (now places) (lineCount (now file))) (now late)
-        × (SPAN_TABLE ≤ length (now rows)) × (1 ≤ code) × (code < BSS) × (at < 2 ^ 62) ⌝ }
+        × (1 ≤ code) × (code < BSS) × (at < 2 ^ 62) ⌝ }
     ensures { λ r. ⌜ Written (now (out .entry)) at
         (resultSection (stage .inputs .order) (now (compiled .entry)) (now (assembled .entry)) (placesIn (now (places .entry)) (lineCount (now (file .entry))))
         (now (file .entry)) code) r (now (out .exit))
@@ -143,7 +139,6 @@ pub fn append_copied(
             places,
             stage,
             late,
-            rows,
             code,
         );
     }

@@ -1,4 +1,4 @@
--- What is in hand is what carrying reads, and stays so where the spans of a section are written over the index. Assumes nothing.
+-- What is in hand is what carrying reads, and stays so where what is read of the index does. Assumes nothing.
 use Prim.Native.Nat.{ℕ}
 use mathlib.Core.Path.{_≡_}
 use mathlib.Core.List.{List}
@@ -19,7 +19,6 @@ module _ (C A B path : List ℕ) (x : Writing) (table places steps index : List 
       ready-carry C A B (x .stage) (x .manner) (x .counts) table places steps index (h .read) (h .movable) (h .symbols) (h .buffers) (x .flag) (x .carry) places index
       (record { held = h .carried; keptPlaces = kept-same HOMES_AT places; keptIndex = kept-same CARRY_SPANS_AT index })
 
-  -- behind the spans of a section
   pub held-still : (after : List ℕ) → SpansOver index after → PlanHeld C A B path x table places steps after
   held-still after k =
       let order : orderPart after ≡ orderPart index = kept-part SPANS_AT index after (k .kept) 0 POSITION_TABLE (omega arith) in

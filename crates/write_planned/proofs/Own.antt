@@ -1,23 +1,19 @@
 -- What is in hand is what the appending functions ask, and what they append is what C's sections become. Assumes nothing.
-use Prim.Native.Nat.{ℕ, _+_, _-_, _*_, _≤_}
+use Prim.Native.Nat.{ℕ, _+_, _*_, _≤_}
 use mathlib.Core.Path.{_≡_, refl, ap, _∙_}
-use mathlib.Core.List.{List, _++_}
+use mathlib.Core.List.{List}
 use native.Mathlib.Omega.{arith}
-use lib.ListN.{length, take, drop}
-use lib.Seq.{drop-drop}
-use Rattle.base_lists.specs.Windows.{spliced}
-use Rattle.base_lists.proofs.Windows.{part-after}
+use lib.ListN.{length}
 use Rattle.base_fields.specs.declared.ByteOrder.{ByteOrder}
-use Rattle.base_scope.specs.Limits.{ID_LIMIT, STATIC_LIMIT, STATIC_ROW, SPAN_TABLE, POSITION_TABLE}
+use Rattle.base_scope.specs.Limits.{ID_LIMIT, STATIC_LIMIT, STATIC_ROW, POSITION_TABLE}
 use Rattle.blocks_places.specs.Lines.{lineCount}
 use Rattle.blocks_places.specs.Places.{Place}
 use Rattle.blocks_places.specs.Table.{placesIn}
 use Rattle.statics_table.specs.Statics.{nameHead}
 use Rattle.statics_table.specs.Table.{staticsIn}
 use Rattle.statics_walk.specs.Walk.{statics}
-use Rattle.base_buffers.specs.Parts.{partAt}
-use Rattle.merge_buffers.specs.Buffers.{NUMBERS_AT, SPANS_AT, SPANS_END, INDEX_BUFFER, blocksPart, idsPart, placesPart, lateStepPart, staticsPart, glabelsPart, listPart, orderPart}
-use Rattle.base_buffers.proofs.Parts.{lent, putBack, part-long, part-lent, put-kept, kept-same}
+use Rattle.merge_buffers.specs.Buffers.{NUMBERS_AT, SPANS_AT, blocksPart, idsPart, placesPart, lateStepPart, staticsPart, glabelsPart, listPart, orderPart}
+use Rattle.base_buffers.proofs.Parts.{part-long, kept-same}
 use Rattle.merge_sections.specs.Sections.{resultSection}
 use Rattle.merge_sections.specs.Stages.{StageRead, Movable}
 use Rattle.symbols_merge.specs.Candidates.{Candidates}
@@ -33,7 +29,6 @@ use Rattle.symbols_table.specs.Table.{symbolsTableIn, SymbolsReady}
 use Rattle.symbols_table.specs.Stage.{candidatesBy}
 use Rattle.symbols_table.proofs.Table.{symbols-ready, symbols-table}
 use Rattle.symbols_stage.specs.End.{fillingOf, numberingBy}
-use Rattle.carry_stage.specs.Tables.{CARRY_SPANS_AT}
 use Rattle.write_strings.specs.Strings.{resultStrings}
 use Rattle.write_planned.specs.declared.Writing.{Writing}
 use Rattle.write_planned.specs.Held.{heldPlaces, heldSymbols, heldStrings, PlanHeld, SpansOver}
@@ -41,33 +36,6 @@ use Rattle.write_planned.specs.Held.{heldPlaces, heldSymbols, heldString
 -- nothing was written over the index
 pub spans-same : (l : List ℕ) → SpansOver l l
 spans-same l = record { kept = kept-same SPANS_AT l; rows = refl }
-
--- the spans of a section were, in the part that was lent
-module _ (from to : ℕ) (index : List ℕ) (starts : from ≡ SPANS_AT) (ends : to ≡ SPANS_END) (room : INDEX_BUFFER ≤ length index) where
-  section-spans-long : length (lent from to index) ≡ SPAN_TABLE
-  section-spans-long = ap length (part-lent SPANS_AT SPAN_TABLE from to index starts ends) ∙ part-long SPANS_AT SPAN_TABLE index (omega (arith, room))
-
-  pub section-spans-room : SPAN_TABLE ≤ length (lent from to index)
-  section-spans-room = omega (arith, section-spans-long)
-
-  module _ (part : List ℕ) (same : length part ≡ length (lent from to index)) where
-    back-spliced : putBack from to index part ≡ spliced index SPANS_AT part
-    unfolding spliced
-    back-spliced =
-        let e : from + (to - from) ≡ SPANS_AT + length part = omega (arith, same, section-spans-long, starts, ends) in
-        ap (λ (l : List ℕ). take from index ++ (part ++ l)) (drop-drop (to - from) from index ∙ ap (λ (k : ℕ). drop k index) e)
-        ∙ ap (λ (k : ℕ). take k index ++ (part ++ drop (SPANS_AT + length part) index)) starts
-
-    spans-behind : partAt CARRY_SPANS_AT SPAN_TABLE (putBack from to index part) ≡ partAt CARRY_SPANS_AT SPAN_TABLE index
-    unfolding partAt
-    spans-behind = ap (λ (l : List ℕ). take SPAN_TABLE (drop CARRY_SPANS_AT l)) back-spliced
-        ∙ part-after index SPANS_AT part (omega (arith, room, same, section-spans-long)) CARRY_SPANS_AT SPAN_TABLE (omega (arith, same, section-spans-long))
-
-    pub section-spans : SpansOver index (putBack from to index part)
-    section-spans = record {
-      kept = put-kept SPANS_AT SPAN_TABLE from to index part (putBack from to index part) starts ends (omega (arith, room)) same refl;
-      rows = spans-behind;
-    }
 
 module _ (C A B path : List ℕ) (x : Writing) (table places steps index : List ℕ) (h : PlanHeld C A B path x table places steps index) where
   abbrev o : ByteOrder

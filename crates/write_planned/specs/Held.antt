@@ -37,7 +37,7 @@ pub record PlanHeld (C A B path : List ℕ) (x : Writing) (table places steps in
   pub short : length path ≤ PATH_LIMIT
   pub head : x .manner .head ≡ length (nameHead (x .manner .mode) path)
 
--- the spans of a section were written over those before: all else in the index stays
+-- what is read of the index stays: all before the spans of a section, and the rows of .text's spans
 pub record SpansOver (before after : List ℕ) : Type 0 where
   pub kept : KeptBefore SPANS_AT before after
   pub rows : textSpansPart after ≡ textSpansPart before

@@ -1,6 +1,6 @@
 // What each section of a merged object holds, appended, and how long it is; the headers of C's sections that stay, and where the names of new sections stand (crate write_plan,
 // specs/Plan.antt), by what is in hand behind the symbol merge and carrying (specs/Held.antt). Each appending function says `Written` of its definition: bytes that do not fit
-// are counted and not written. Spans of a section are gathered over the index, and all else in it stays (`SpansOver`; proofs/Held.antt, `held-still`).
+// are counted and not written. What is read of the index stays as it is (`SpansOver`; proofs/Held.antt, `held-still`).
 ghost use mathlib.Core.Path.{_≡_};
 ghost use mathlib.Core.Bool.{true, not, _||_};
 ghost use mathlib.Core.List.{_++_};
@@ -333,7 +333,7 @@ fn append_section(
     table: &[u8],
     places: &[u8],
     steps: &[u8],
-    index: &mut [u8],
+    index: &[u8],
     i: usize,
 ) -> u64
     requires { ⌜ PlanHeld (now compiled) (now assembled) (now file) (now path) x (now table) (now places) (now steps) (now index)
@@ -341,7 +341,7 @@ fn append_section(
     ensures { λ r. ⌜ Written (now (out .entry)) at
         (resultSection (x .stage .inputs .order) (now (compiled .entry)) (now (assembled .entry)) (heldPlaces (now (file .entry)) (now (places .entry)))
         (now (file .entry)) (codeOf (x .stage .inputs .order) (now (compiled .entry)) i)) r (now (out .exit))
-        × (r ≤ at + 2 ^ 34) × SpansOver (now (index .entry)) (now (index .exit)) ⌝ }
+        × (r ≤ at + 2 ^ 34) ⌝ }
 {
     let stage = x.stage;
     let inputs = stage.inputs;
@@ -349,8 +349,6 @@ fn append_section(
     let blocks = base_buffers::part(table, 0, base_scope::BLOCK_TABLE);
     let lines = base_buffers::part(places, 0, base_scope::PLACE_TABLE);
     let late = base_buffers::part(steps, 0, base_scope::LATE_TABLE);
-    let from = base_buffers::bound(merge_buffers::SPANS_AT);
-    let to = base_buffers::bound(merge_buffers::SPANS_END);
     write_content::append_copied(
         out,
         at,
@@ -361,7 +359,6 @@ fn append_section(
         lines,
         stage,
         late,
-        &mut index[from..to],
         code,
     )
 }

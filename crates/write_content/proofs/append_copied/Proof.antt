@@ -14,31 +14,28 @@ use Rattle.write_content.proofs.append_copied.Tie as tie
 
 coded-contents-requires : tie.Need-coded-contents-requires
 coded-contents-requires c κs =
-    let v-pre = c .before .before .before .before .before .before .before .before .before .before .pre in
-    (v-pre .0 .read .compiled, v-pre .3, omega (arith, v-pre .4))
+    let v-pre = c .before .before .before .before .before .before .before .before .before .pre in
+    (v-pre .0 .read .compiled, v-pre .2, omega (arith, v-pre .3))
 
 add-end : tie.Need-add-end
 add-end c = search needs
 
 write-coded-requires : tie.Need-write-coded-requires
 write-coded-requires c κs =
-    let v-pre = c .before .before .before .before .before .before .before .before .before .before .before .before .before .before .pre in
-    let v-coded-contents = c .before .before .before .coded-contents in
-    let v-if1 = c .before .before .if1 in
-    (v-pre .0, v-pre .1, omega (arith, ap length (v-coded-contents .ensures), v-if1 .taken), v-pre .2, v-pre .3, v-pre .4)
+    let v-pre = c .before .before .before .before .before .before .before .before .before .before .before .before .pre in
+    let v-coded-contents = c .before .before .coded-contents in
+    let v-if1 = c .before .if1 in
+    (v-pre .0, v-pre .1, omega (arith, ap length (v-coded-contents .ensures), v-if1 .taken), v-pre .2, v-pre .3)
 
 same-length : tie.Need-same-length
 same-length c = search needs
 
-same-length-2 : tie.Need-same-length-2
-same-length-2 c = search needs
-
 returns : tie.Need-returns
 returns c =
-    let v-args = c .before .before .before .before .before .before .before .before .before .before .before .before .before .before .before .before .before .before .before .args in
-    let v-pre = c .before .before .before .before .before .before .before .before .before .before .before .before .before .before .before .before .before .before .before .pre in
-    let v-coded-contents = c .before .before .before .before .before .before .before .before .coded-contents in
-    let v-write-coded = c .before .before .before .before .write-coded in
+    let v-args = c .before .before .before .before .before .before .before .before .before .before .before .before .before .before .before .args in
+    let v-pre = c .before .before .before .before .before .before .before .before .before .before .before .before .before .before .before .pre in
+    let v-coded-contents = c .before .before .before .before .before .coded-contents in
+    let v-write-coded = c .before .before .write-coded in
     let P = placesIn (now (v-args .places)) (lineCount (now (v-args .file))) in
     let e = ap length (v-coded-contents .ensures) in
     let n = section-length (v-args .stage .inputs .order) (now (v-args .compiled)) (now (v-args .assembled)) P (now (v-args .file)) (v-args .code) in
@@ -47,8 +44,8 @@ returns c =
 
 returns-2 : tie.Need-returns-2
 returns-2 c =
-    let v-args = c .before .before .before .before .before .before .before .before .before .before .before .before .args in
-    let v-pre = c .before .before .before .before .before .before .before .before .before .before .before .before .pre in
+    let v-args = c .before .before .before .before .before .before .before .before .before .before .before .args in
+    let v-pre = c .before .before .before .before .before .before .before .before .before .before .before .pre in
     let v-coded-contents = c .before .coded-contents in
     let v-if1 = c .if1 in
     let P = placesIn (now (v-args .places)) (lineCount (now (v-args .file))) in
@@ -65,6 +62,5 @@ append-copied-spec =
     add-end
     write-coded-requires
     same-length
-    same-length-2
     returns
     returns-2)

@@ -14,47 +14,41 @@ use Rattle.write_content.proofs.write_coded.Tie as tie
 
 write-late-target-requires : tie.Need-write-late-target-requires
 write-late-target-requires c κs =
-    let v-args = c .before .before .before .before .before .before .before .before .before .before .before .args in
-    let v-pre = c .before .before .before .before .before .before .before .before .before .before .before .pre in
-    let v-if1 = c .before .before .if1 in
+    let v-args = c .before .before .before .before .before .before .before .before .before .args in
+    let v-pre = c .before .before .before .before .before .before .before .before .before .pre in
+    let v-if1 = c .before .if1 in
     let e = ap (λ (x : ℕ). length (codedContents (v-args .stage .inputs .order) (now (v-args .compiled)) x)) (v-if1 .taken) in
-    (v-pre .0, v-pre .1, omega (arith, e, v-pre .2), v-pre .3)
+    (v-pre .0, v-pre .1, omega (arith, e, v-pre .2))
 
 same-length : tie.Need-same-length
 same-length c = search needs
 
-same-length-2 : tie.Need-same-length-2
-same-length-2 c = search needs
-
 returns : tie.Need-returns
 returns c =
-    let v-args = c .before .before .before .before .before .before .before .before .before .before .before .before .before .before .before .before .args in
-    let v-if1 = c .before .before .before .before .before .before .before .if1 in
-    let v-write-late-target = c .before .before .before .before .write-late-target in
+    let v-args = c .before .before .before .before .before .before .before .before .before .before .before .before .args in
+    let v-if1 = c .before .before .before .before .if1 in
+    let v-write-late-target = c .before .before .write-late-target in
     let P = placesIn (now (v-args .places)) (lineCount (now (v-args .file))) in
     target-written (v-args .stage .inputs .order) (now (v-args .compiled)) (now (v-args .assembled)) P (now (v-args .file)) (v-args .code) (now (v-args .out)) (v-args .at) (v-write-late-target .last .0) (v-if1 .taken) (v-write-late-target .ensures .1)
 
 write-section-requires : tie.Need-write-section-requires
 write-section-requires c κs =
-    let v-args = c .before .before .before .before .before .before .before .before .before .before .before .before .args in
-    let v-pre = c .before .before .before .before .before .before .before .before .before .before .before .before .pre in
-    let v-if1 = c .before .before .before .if1 in
-    (v-pre .0 .read, v-pre .0 .agrees .complete, copied-holds (v-args .code) (v-pre .4) (v-pre .5) (v-if1 .left), v-pre .2, v-pre .3)
+    let v-args = c .before .before .before .before .before .before .before .before .before .before .args in
+    let v-pre = c .before .before .before .before .before .before .before .before .before .before .pre in
+    let v-if1 = c .before .before .if1 in
+    (v-pre .0 .read, v-pre .0 .agrees .complete, copied-holds (v-args .code) (v-pre .3) (v-pre .4) (v-if1 .left), v-pre .2)
 
-same-length-3 : tie.Need-same-length-3
-same-length-3 c = search needs
-
-same-length-4 : tie.Need-same-length-4
-same-length-4 c = search needs
+same-length-2 : tie.Need-same-length-2
+same-length-2 c = search needs
 
 returns-2 : tie.Need-returns-2
 returns-2 c =
-    let v-args = c .before .before .before .before .before .before .before .before .before .before .before .before .before .before .before .before .before .args in
-    let v-pre = c .before .before .before .before .before .before .before .before .before .before .before .before .before .before .before .before .before .pre in
-    let v-if1 = c .before .before .before .before .before .before .before .before .if1 in
-    let v-write-section = c .before .before .before .before .write-section in
+    let v-args = c .before .before .before .before .before .before .before .before .before .before .before .before .before .args in
+    let v-pre = c .before .before .before .before .before .before .before .before .before .before .before .before .before .pre in
+    let v-if1 = c .before .before .before .before .before .if1 in
+    let v-write-section = c .before .before .write-section in
     let P = placesIn (now (v-args .places)) (lineCount (now (v-args .file))) in
-    copied-written (v-args .stage .inputs .order) (now (v-args .compiled)) (now (v-args .assembled)) P (now (v-args .file)) (v-args .code) (now (v-args .out)) (v-args .at) (v-write-section .last .0) (v-pre .4) (v-pre .5) (v-if1 .left) (v-write-section .ensures .1)
+    copied-written (v-args .stage .inputs .order) (now (v-args .compiled)) (now (v-args .assembled)) P (now (v-args .file)) (v-args .code) (now (v-args .out)) (v-args .at) (v-write-section .last .0) (v-pre .3) (v-pre .4) (v-if1 .left) (v-write-section .ensures .1)
 
 pub write-coded-spec : {M : Type 1} → statement M
 write-coded-spec =
@@ -62,9 +56,7 @@ write-coded-spec =
     (tie.spec
     write-late-target-requires
     same-length
-    same-length-2
     returns
     write-section-requires
-    same-length-3
-    same-length-4
+    same-length-2
     returns-2)

@@ -152,15 +152,15 @@ same-length-8 c = search needs
 returns-5 : tie.Need-returns-5
 returns-5 c =
     let v-args =
-    c .before .before .before .before .before .before .before .before .before .before .before .before .before .before .before .before .before .before .before .before .before .args in
-    let v-own-kind = c .before .before .before .before .before .before .before .before .before .own-kind in
-    let v-enum-told5 = c .before .before .before .before .before .before .before .enum-told5 in
-    let v-append-section = c .before .before .before .before .append-section in (
+    c .before .before .before .before .before .before .before .before .before .before .before .before .before .before .before .before .before .before .before .args in
+    let v-own-kind = c .before .before .before .before .before .before .before .own-kind in
+    let v-enum-told5 = c .before .before .before .before .before .enum-told5 in
+    let v-append-section = c .before .before .append-section in (
       written-as _ _ _ _ _ _ (own-copied (v-args .x .stage .inputs .order) (now (v-args .compiled)) (now (v-args .assembled)) (heldPlaces (now (v-args .file)) (now
           (v-args .places))) (now (v-args .file)) (now (v-args .path)) (v-args .x .flag) (v-args .x .manner .mode) (v-args .i) _ (v-own-kind .ensures)
           (v-enum-told5 .given .1)) (v-append-section .ensures .0),
       v-append-section .ensures .1,
-      v-append-section .ensures .2,
+      spans-same _,
     )
 
 pub append-own-spec : {M : Type 1} → statement M
