@@ -42,7 +42,7 @@ extern "C" {
 
 /* The least bytes of the working buffers of a merge: `table`, `places`, `steps`
  * and `index`. */
-#define DAPHULLE_BLOCK_BUFFER 245760
+#define DAPHULLE_BLOCK_BUFFER 147456
 #define DAPHULLE_PLACE_BUFFER 81920
 #define DAPHULLE_STEP_BUFFER 389951
 #define DAPHULLE_INDEX_BUFFER 114688
@@ -144,7 +144,7 @@ struct daphulle_job {
     size_t out_length;
 };
 
-/* The working buffers of either call. It has 832,319 bytes: it is for static or
+/* The working buffers of either call. It has 734,015 bytes: it is for static or
  * allocated memory, not for a stack. One that was used may be used again. */
 struct daphulle_work {
     uint8_t table[DAPHULLE_BLOCK_BUFFER];

@@ -14,7 +14,7 @@ pub const PLACE_TABLE: usize = 32_768;
 pub const PATH_LIMIT: usize = 255;
 
 /// The least length of a merge's working buffer `table` (docs/SIZES.md).
-pub const BLOCK_BUFFER: usize = 245_760;
+pub const BLOCK_BUFFER: usize = 147_456;
 /// The least length of a merge's working buffer `places`.
 pub const PLACE_BUFFER: usize = 81_920;
 /// The least length of a merge's working buffer `steps`.

@@ -47,7 +47,7 @@ fn record_of(file: &[u8], table: &[u8], places: &[u8], j: usize) -> SpanRecord
         × (taken (placesIn (now places) (lineCount (now file))) j ≡ true) ⌝ }
     ensures { λ r. ⌜ r ≡ recordOf (placesIn (now (places .entry)) (lineCount (now (file .entry)))) (now (file .entry)) j ⌝ }
 {
-    let size = blocks_places::span_size(file, table, j);
+    let size = blocks_places::size_of(places, j);
     let place = blocks_places::place_of(places, j);
     SpanRecord {
         code: base_scope::line_code(j),

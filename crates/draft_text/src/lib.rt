@@ -134,7 +134,7 @@ fn end_after(file: &[u8], table: &[u8], places: &[u8], j: usize, end: u64) -> u6
 {
     if blocks_places::is_taken(places, j) {
         let place = blocks_places::place_of(places, j) as u64;
-        let size = blocks_places::span_size(file, table, j) as u64;
+        let size = blocks_places::size_of(places, j) as u64;
         return place + size;
     }
     end

@@ -1,4 +1,4 @@
--- `copy_spans::record_of` meets its contract: the table of places has the place, the block file the size of a line that is taken. Assumes nothing.
+-- `copy_spans::record_of` meets its contract: the table of places has the place and the size of a line that is taken. Assumes nothing.
 use Rattle.blocks_places.proofs.Walk.{laid-place, laid-inside}
 use Rattle.blocks_places.specs.Table.{placesIn}
 use Rattle.blocks_places.specs.Lines.{lineCount}
@@ -11,10 +11,11 @@ use borrow.Author.Needs.{needs}
 use Rattle.copy_spans.proofs.record_of.Statement.{statement}
 use Rattle.copy_spans.proofs.record_of.Tie as tie
 
-span-size-requires : tie.Need-span-size-requires
-span-size-requires c κs =
+size-of-requires : tie.Need-size-of-requires
+size-of-requires c κs =
     let b = c .before .before .before in
-    (b .pre .0 .parsed, b .pre .1, b .pre .0 .fitting .labels (b .args .j) (b .pre .2))
+    let a = b .args in
+    laid-inside (placesIn (now (a .places)) (lineCount (now (a .file)))) (now (a .file)) (now (a .table)) (now (a .places)) (b .pre .0) (a .j) (b .pre .1)
 
 place-of-requires : tie.Need-place-of-requires
 place-of-requires c κs =
@@ -46,7 +47,7 @@ returns c =
     λ k. record {
       code = c .before .line-code .ensures .0 k;
       place = (c .before .before .place-of .ensures .0 ∙ laid-place P (now (a .file)) (now (a .table)) (now (a .places)) (b .pre .0) (a .j) (b .pre .1)) k;
-      size = c .before .before .before .span-size .ensures .0 k;
+      size = (c .before .before .before .size-of .ensures .0 ∙ b .pre .0 .sizes (a .j) (b .pre .2)) k;
       block = c .line-block .ensures k;
     }
 
@@ -54,7 +55,7 @@ pub record-of-spec : {M : Type 1} → statement M
 record-of-spec =
     tie.close
     (tie.spec
-    span-size-requires
+    size-of-requires
     place-of-requires
     line-code-requires
     cast-t8

@@ -1,5 +1,5 @@
 -- The end moves behind a span that is taken, and stays otherwise. Assumes nothing.
-use Rattle.blocks_places.proofs.Walk.{laid-taken, laid-inside}
+use Rattle.blocks_places.proofs.Walk.{laid-size, laid-inside}
 use Rattle.draft_text.proofs.Places.{end-read, end-kept}
 use native.Mathlib.Omega.{arith}
 use mathlib.Core.Path.{sym, _∙_}
@@ -19,20 +19,21 @@ place-of-requires c κs =
     let q = c .before .before .before .before .before .pre in
     laid-inside _ (now (a .file)) (now (a .table)) (now (a .places)) (q .0) (a .j) (q .1)
 
-span-size-requires : tie.Need-span-size-requires
-span-size-requires c κs =
+size-of-requires : tie.Need-size-of-requires
+size-of-requires c κs =
     let a = c .before .before .before .before .before .before .args in
     let q = c .before .before .before .before .before .before .pre in
-    (q .0 .parsed, q .1, q .0 .fitting .labels (a .j) (sym (laid-taken _ (now (a .file)) (now (a .table)) (now (a .places)) (q .0) (a .j) (q .1)) ∙ sym (c .before .before .is-taken .ensures) ∙ c .before .if1 .taken))
+    laid-inside _ (now (a .file)) (now (a .table)) (now (a .places)) (q .0) (a .j) (q .1)
 
 add-result : tie.Need-add-result
-add-result c = omega (arith, c .span-size .ensures .1, c .before .place-of .ensures .1)
+add-result c = omega (arith, c .size-of .ensures .1, c .before .place-of .ensures .1)
 
 returns : tie.Need-returns
 returns c =
     let a = c .before .before .before .before .before .before .before .args in
     let q = c .before .before .before .before .before .before .before .pre in
-    end-read _ (now (a .file)) (now (a .table)) (now (a .places)) (q .0) (a .j) (a .end) (q .1) (q .2) _ _ (sym (c .before .before .before .is-taken .ensures) ∙ c .before .before .if1 .taken) (c .before .place-of .ensures .0) (c .span-size .ensures .0)
+    end-read _ (now (a .file)) (now (a .table)) (now (a .places)) (q .0) (a .j) (a .end) (q .1) (q .2) _ _ (sym (c .before .before .before .is-taken .ensures) ∙ c .before .before .if1 .taken) (c .before .place-of .ensures .0)
+    (c .size-of .ensures .0 ∙ laid-size _ (now (a .file)) (now (a .table)) (now (a .places)) (q .0) (a .j) (q .1) (sym (c .before .before .before .is-taken .ensures) ∙ c .before .before .if1 .taken))
 
 returns-2 : tie.Need-returns-2
 returns-2 c =
@@ -43,4 +44,4 @@ returns-2 c =
 pub end-after-spec : {M : Type 1} → statement M
 end-after-spec =
     tie.close
-    (tie.spec is-taken-requires place-of-requires span-size-requires add-result returns returns-2)
+    (tie.spec is-taken-requires place-of-requires size-of-requires add-result returns returns-2)
