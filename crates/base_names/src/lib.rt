@@ -36,19 +36,19 @@ fn has_zero(t: &[u8], at: usize, n: usize) -> bool
     hit
 }
 
-// The name at `at` passed over 16 bytes at a time, as long as no zero is among them: less than 16 bytes of it are left.
+// The name at `at` passed over 8 bytes at a time, as long as no zero is among them: less than 8 bytes of it are left. Most names have less than 16.
 fn near_end(t: &[u8], at: usize) -> usize
     ensures { λ r. ⌜ nameEnd (now (t .entry)) at ≡ nameEnd (now (t .entry)) r ⌝ }
 {
     let mut i = at;
     while i < t.len() {
-        if t.len() - i < 16 {
+        if t.len() - i < 8 {
             return i;
         }
-        if has_zero(t, i, 16) {
+        if has_zero(t, i, 8) {
             return i;
         }
-        i += 16;
+        i += 8;
     }
     i
 }

@@ -76,7 +76,7 @@ module _ (F : List ℕ) where
   unfolding orderOf
   order-big e = rw (ne-eqb _ _ e)
 
--- a section header in hand: the section's bytes, their bound, and whether it is a string table
+-- a section's bytes, by its header
 module _ (o : ByteOrder) (F : List ℕ) (i : ℕ) (h : SectionHeader) (is : h ≡ section o F i) where
   pub contents-none : h .«sh_type» ≡ SHT_NOBITS → [] ≡ contents o F i
   unfolding contents
@@ -87,9 +87,6 @@ module _ (o : ByteOrder) (F : List ℕ) (i : ℕ) (h : SectionHeader) (is : h �
   contents-part e =
       let n : h .«sh_offset» + h .«sh_size» - h .«sh_offset» ≡ h .«sh_size» = omega arith in
       rw (← is, ne-eqb _ _ e, n)
-
-  pub held-part : Headed o F → i < sectionCount o F → (h .«sh_type» ≡ SHT_NOBITS → ⊥) → h .«sh_offset» + h .«sh_size» ≤ length F
-  held-part s l e = rw is (s .held i l (λ t. e (ap (λ (x : SectionHeader). x .«sh_type») is ∙ t)))
 
 -- or its words
 pub words-part : (o : ByteOrder) (F : List ℕ) (i from size : ℕ) → from ≡ section o F i .«sh_offset» → size ≡ section o F i .«sh_size»
@@ -104,13 +101,7 @@ pub strtab-past : (o : ByteOrder) (F : List ℕ) (i : ℕ) → sectionCount o F 
 unfolding isStrtab
 strtab-past o F i l = rw (le-ltb _ _ l)
 
--- a section's name, read from the names' table in hand: by its header,
-module _ (o : ByteOrder) (F : List ℕ) (i : ℕ) (h : SectionHeader) (s : List ℕ) (is : h ≡ section o F i) (table : s ≡ sectionStrings o F) where
-  pub name-read : nameAt s (h .«sh_name») ≡ sectionName o F i
-  unfolding sectionName
-  name-read = rw (is, table)
-
--- or from where it starts there
+-- a section's name, from where it starts in the names' table
 pub name-placed : (o : ByteOrder) (F : List ℕ) (i at : ℕ) (s : List ℕ) → at ≡ section o F i .«sh_name» → s ≡ sectionStrings o F → nameAt s at ≡ sectionName o F i
 unfolding sectionName
 name-placed o F i at s is table = rw (is, table)

@@ -41,7 +41,7 @@ loop-again : tie.Need-loop-again Inv-loop μ-loop
 loop-again c =
     let a = c .before .before .before .before .before .before .args in
     let l = c .before .before .before .before .loop in
-    l .inv ∙ end-behind-free (now (a .t)) (l .i) 16 (omega arith) (sym (c .before .has-zero .ensures) ∙ c .if2 .left)
+    l .inv ∙ end-behind-free (now (a .t)) (l .i) 8 (omega arith) (sym (c .before .has-zero .ensures) ∙ c .if2 .left)
 
 returns-3 : tie.Need-returns-3 Inv-loop μ-loop
 returns-3 c = c .before .loop .inv
