@@ -19,7 +19,7 @@ import sys
 import tempfile
 
 # crate: its record, of words (u32) only, and the functions that hold a list of it
-MADE = {"copy_spans": ("SpanRecord", ["fill_spans", "first_low", "copy_blocks", "copy_section"])}
+MADE = {"copy_spans": ("SpanRecord", ["fill_spans", "first_low", "copy_blocks", "splice_section", "copy_few", "copy_many"])}
 
 NOTE = "-- Made by tools/twin.py from the twin of `{}`: not written by hand.\n"
 

@@ -3,3 +3,4 @@ pub mod SpanRecord
 pub mod fill_spans
 pub mod first_low
 pub mod copy_blocks
+pub mod splice_section

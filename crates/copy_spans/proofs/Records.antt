@@ -476,8 +476,8 @@ module _ (P : List Place) (B : List ℕ) (before : List SpanRecord) where
         record { many = k .many ∙ sym (among-length P B j) ∙ ap (λ (i : ℕ). length (recordsAmong P B i)) e; rows = k .rows ∙ ap (recordsAmong P B) e }
 
 -- no more records than lines, and no more of them clear
-pub filled-few : (P : List Place) (B : List ℕ) (n : ℕ) (after : List SpanRecord) → Filled P B n after → n ≤ LINES * BLOCK_LIMIT
-filled-few P B n after f = omega (arith, f .many, length-records P B, count-le (taken P) (lineCount B), count-high B)
+pub filled-few : (P : List Place) (B : List ℕ) (n : ℕ) (after : List SpanRecord) → Filled P B n after → n ≤ lineCount B
+filled-few P B n after f = omega (arith, f .many, length-records P B, count-le (taken P) (lineCount B))
 
 pub clear-few : (spans : List SpanRecord) (n c clear : ℕ) → n ≤ length spans → clear ≡ firstLow (take n spans) c → clear ≤ n
 clear-few spans n c clear h e = omega (arith, e, low-few (take n spans) c, length-take-le n spans h)

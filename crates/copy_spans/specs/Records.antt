@@ -16,6 +16,10 @@ use Rattle.blocks_spans.specs.Spans.{lastEnd}
 use Rattle.blocks_spans.specs.Copied.{copied}
 use Rattle.copy_spans.specs.declared.SpanRecord.{SpanRecord}
 
+-- so few blocks have a shorter list
+abbrev pub FEW_BLOCKS : ℕ
+FEW_BLOCKS = 64
+
 abbrev pub noRecord : SpanRecord
 noRecord = record { code = 0; place = 0; size = 0; block = 0 }
 

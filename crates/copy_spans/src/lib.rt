@@ -15,7 +15,7 @@ ghost use Rattle.blocks_places.specs.Places.{taken};
 ghost use Rattle.blocks_places.specs.Table.{placesIn, Laid};
 ghost use Rattle.blocks_spans.specs.Spans.{spansOf, EndsBy};
 ghost use Rattle.blocks_spans.specs.Copied.{copied};
-ghost use Rattle.copy_spans.specs.Records.{isLow, endBehind, firstLow, BlockCopied, BlocksCopied, recordOf, Filled};
+ghost use Rattle.copy_spans.specs.Records.{FEW_BLOCKS, noRecord, isLow, endBehind, firstLow, BlockCopied, BlocksCopied, recordOf, Filled};
 
 // A span of a block: the code of its section, its place and its size in the section, and the block.
 pub struct SpanRecord {
@@ -28,17 +28,37 @@ pub struct SpanRecord {
 // How many there are at most: one for each line.
 pub const SPAN_LIMIT: usize = base_scope::LINES * base_scope::BLOCK_LIMIT;
 
-// A list that is not filled yet.
-fn no_spans() -> [SpanRecord; SPAN_LIMIT]
-    ensures { λ r. ⌜ length r ≡ LINES * BLOCK_LIMIT ⌝ }
+// So few blocks have a shorter list: one that is made costs as much as it is long.
+const FEW_BLOCKS: usize = 64;
+
+const FEW_SPANS: usize = base_scope::LINES * FEW_BLOCKS;
+
+// A record before its list is filled.
+fn no_span() -> SpanRecord
+    ensures { λ r. ⌜ r ≡ noRecord ⌝ }
 {
-    let none = SpanRecord {
+    SpanRecord {
         code: 0,
         place: 0,
         size: 0,
         block: 0,
-    };
+    }
+}
+
+// A list that is not filled yet.
+fn no_spans() -> [SpanRecord; SPAN_LIMIT]
+    ensures { λ r. ⌜ length r ≡ LINES * BLOCK_LIMIT ⌝ }
+{
+    let none = no_span();
     [none; SPAN_LIMIT]
+}
+
+// One for few blocks.
+fn few_spans() -> [SpanRecord; FEW_SPANS]
+    ensures { λ r. ⌜ length r ≡ LINES * FEW_BLOCKS ⌝ }
+{
+    let none = no_span();
+    [none; FEW_SPANS]
 }
 
 // The record of line j, which is taken.
@@ -65,7 +85,7 @@ pub fn fill_spans(
     blocks: usize,
     spans: &mut [SpanRecord],
 ) -> usize
-    requires { ⌜ Laid (placesIn (now places) (lineCount (now file))) (now file) (now table) (now places) × (blocks ≡ blockCount (now file)) × (LINES * BLOCK_LIMIT ≤ length (now spans)) ⌝ }
+    requires { ⌜ Laid (placesIn (now places) (lineCount (now file))) (now file) (now table) (now places) × (blocks ≡ blockCount (now file)) × (lineCount (now file) ≤ length (now spans)) ⌝ }
     ensures { λ r. ⌜ Filled (placesIn (now (places .entry)) (lineCount (now (file .entry)))) (now (file .entry)) r (now (spans .exit)) ⌝ }
 {
     let mut n: usize = 0;
@@ -157,9 +177,58 @@ pub fn copy_blocks(spans: &[SpanRecord], code: u32, source: &[u8], section: &mut
     i
 }
 
-// Copies the blocks of a section over C's bytes of it: the list is made, the places of the section are checked, and the spans before the first at fault are copied. 8 leaves
-// none at fault, and 11 none outside.
-fn copy_section(
+// Copies the blocks of a section over C's bytes of it, by a lent list: it is filled, the places of the section are checked, and the spans before the first at fault are
+// copied. 8 leaves none at fault, and 11 none outside.
+fn splice_section(
+    spans: &mut [SpanRecord],
+    section: &mut [u8],
+    file: &[u8],
+    table: &[u8],
+    places: &[u8],
+    blocks: usize,
+    code: u32,
+    source: &[u8],
+)
+    requires { ⌜ Laid (placesIn (now places) (lineCount (now file))) (now file) (now table) (now places) × (blocks ≡ blockCount (now file))
+        × EndsBy (spansOf (placesIn (now places) (lineCount (now file))) (now file) code) (length (now section))
+        × EndsBy (spansOf (placesIn (now places) (lineCount (now file))) (now file) code) (length (now source)) × (lineCount (now file) ≤ length (now spans)) ⌝ }
+    ensures { λ _. ⌜ now (section .exit) ≡ copied (spansOf (placesIn (now (places .entry)) (lineCount (now (file .entry)))) (now (file .entry)) code) (now (section .entry)) (now (source .entry)) ⌝ }
+{
+    let n = fill_spans(file, table, places, blocks, spans);
+    let clear = first_low(&spans[..n], code);
+    copy_blocks(&spans[..clear], code, source, section);
+}
+
+// The same by a list of its own, where there are few blocks.
+fn copy_few(
+    section: &mut [u8],
+    file: &[u8],
+    table: &[u8],
+    places: &[u8],
+    blocks: usize,
+    code: u32,
+    source: &[u8],
+)
+    requires { ⌜ Laid (placesIn (now places) (lineCount (now file))) (now file) (now table) (now places) × (blocks ≡ blockCount (now file))
+        × EndsBy (spansOf (placesIn (now places) (lineCount (now file))) (now file) code) (length (now section))
+        × EndsBy (spansOf (placesIn (now places) (lineCount (now file))) (now file) code) (length (now source)) × (blocks ≤ FEW_BLOCKS) ⌝ }
+    ensures { λ _. ⌜ now (section .exit) ≡ copied (spansOf (placesIn (now (places .entry)) (lineCount (now (file .entry)))) (now (file .entry)) code) (now (section .entry)) (now (source .entry)) ⌝ }
+{
+    let mut spans = few_spans();
+    splice_section(
+        &mut spans,
+        section,
+        file,
+        table,
+        places,
+        blocks,
+        code,
+        source,
+    );
+}
+
+// The same for any number of blocks.
+fn copy_many(
     section: &mut [u8],
     file: &[u8],
     table: &[u8],
@@ -174,9 +243,38 @@ fn copy_section(
     ensures { λ _. ⌜ now (section .exit) ≡ copied (spansOf (placesIn (now (places .entry)) (lineCount (now (file .entry)))) (now (file .entry)) code) (now (section .entry)) (now (source .entry)) ⌝ }
 {
     let mut spans = no_spans();
-    let n = fill_spans(file, table, places, blocks, &mut spans);
-    let clear = first_low(&spans[..n], code);
-    copy_blocks(&spans[..clear], code, source, section);
+    splice_section(
+        &mut spans,
+        section,
+        file,
+        table,
+        places,
+        blocks,
+        code,
+        source,
+    );
+}
+
+// Copies the blocks of a section over C's bytes of it.
+fn copy_section(
+    section: &mut [u8],
+    file: &[u8],
+    table: &[u8],
+    places: &[u8],
+    blocks: usize,
+    code: u32,
+    source: &[u8],
+)
+    requires { ⌜ Laid (placesIn (now places) (lineCount (now file))) (now file) (now table) (now places) × (blocks ≡ blockCount (now file))
+        × EndsBy (spansOf (placesIn (now places) (lineCount (now file))) (now file) code) (length (now section))
+        × EndsBy (spansOf (placesIn (now places) (lineCount (now file))) (now file) code) (length (now source)) ⌝ }
+    ensures { λ _. ⌜ now (section .exit) ≡ copied (spansOf (placesIn (now (places .entry)) (lineCount (now (file .entry)))) (now (file .entry)) code) (now (section .entry)) (now (source .entry)) ⌝ }
+{
+    if blocks <= FEW_BLOCKS {
+        copy_few(section, file, table, places, blocks, code, source);
+    } else {
+        copy_many(section, file, table, places, blocks, code, source);
+    }
 }
 
 // Writes a section after block copying at `at`: C's bytes of it, then the blocks of A's. A's section may be empty where there is no span.
