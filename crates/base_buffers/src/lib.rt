@@ -1,9 +1,70 @@
 // Buffers that are lent to a call: they are zeroed, whole or from a place on, and hold tables one behind the other.
 ghost use mathlib.Core.Path.{_≡_};
-ghost use Prim.Native.Nat.{_+_, _≤_};
-ghost use lib.ListN.{length};
+ghost use Prim.Native.Nat.{ℕ, _+_, _≤_, _<_};
+ghost use lib.ListN.{length, getD};
+ghost use Rattle.base_lists.specs.Windows.{spliced};
 ghost use Rattle.base_buffers.specs.Buffers.{zeros, zeroedFrom};
 ghost use Rattle.base_buffers.specs.Parts.{partAt};
+
+// How many bytes are looked at before they are zeroed.
+const STRETCH: usize = 4096;
+
+// The greater of two bytes.
+fn greater(a: u8, b: u8) -> u8
+    ensures { λ r. ⌜ (a ≤ r) × (b ≤ r) ⌝ }
+{
+    if a < b {
+        return b;
+    }
+    a
+}
+
+// A byte that none of the n bytes at `at` passes; it is 0 where all of them are. All n are looked at, so that the compiler compares many at once.
+fn greatest(s: &[u8], at: usize, n: usize) -> u8
+    requires { ⌜ at + n ≤ length (now s) ⌝ }
+    ensures { λ r. ⌜ ((j : ℕ) → j < n → getD (now (s .entry)) (at + j) 0 ≤ r) ⌝ }
+{
+    let mut top: u8 = 0;
+    let mut i: usize = 0;
+    while i < n {
+        top = greater(top, s[at + i]);
+        i += 1;
+    }
+    top
+}
+
+// Writes zeros over a buffer.
+fn clear(s: &mut [u8])
+    ensures { λ _. ⌜ now (s .exit) ≡ zeros (length (now (s .entry))) ⌝ }
+{
+    let mut i: usize = 0;
+    while i < s.len() {
+        s[i] = 0;
+        i += 1;
+    }
+}
+
+// Zeroes the n bytes at `at`. Where they are zero nothing is written: most of a buffer is never used, and reading is quicker than writing.
+fn zero_part(s: &mut [u8], at: usize, n: usize)
+    requires { ⌜ at + n ≤ length (now s) ⌝ }
+    ensures { λ _. ⌜ now (s .exit) ≡ spliced (now (s .entry)) at (zeros n) ⌝ }
+{
+    if greatest(s, at, n) > 0 {
+        let end = at + n;
+        clear(&mut s[at..end]);
+    }
+}
+
+// As many bytes as are zeroed at a time, of those that are left.
+fn stretch_of(left: usize) -> usize
+    requires { ⌜ 0 < left ⌝ }
+    ensures { λ r. ⌜ (0 < r) × (r ≤ left) ⌝ }
+{
+    if left < STRETCH {
+        return left;
+    }
+    STRETCH
+}
 
 // Zeroes a buffer.
 pub fn zero(s: &mut [u8])
@@ -11,8 +72,9 @@ pub fn zero(s: &mut [u8])
 {
     let mut i: usize = 0;
     while i < s.len() {
-        s[i] = 0;
-        i += 1;
+        let n = stretch_of(s.len() - i);
+        zero_part(s, i, n);
+        i += n;
     }
 }
 
