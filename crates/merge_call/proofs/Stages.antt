@@ -37,7 +37,8 @@ use Rattle.carry_stage.specs.Tables.{HOMES_AT}
 use Rattle.carry_stage.specs.Carry.{SidesRead, CarryMade, CarryJudged}
 use Rattle.carry_stage.proofs.Stage.{ready-read, ready-movable, ready-symbols, ready-held, ready-carry, sides-read}
 use Rattle.write_planned.specs.Held.{heldPlaces}
-use Rattle.write_merged.specs.Merged.{mergedAnswer, MergedReady}
+use Rattle.write_plan.specs.Answer.{mergedAnswer}
+use Rattle.write_merged.specs.Merged.{MergedReady}
 use Rattle.merge_verdict.specs.Verdict.{entriesAnswer, symbolsAnswer}
 use Rattle.merge_verdict.proofs.Accepted.{answer-symbols, answer-numbered, answer-20, answer-result}
 use Rattle.merge_call.specs.Path.{PathHeld}

@@ -53,7 +53,7 @@ use Rattle.carry_clash.specs.Clash.{CLASH, clashFinding}
 use Rattle.carry_entries.specs.Carried.{carryVerdict}
 use Rattle.write_object.specs.Object.{movedFinding}
 use Rattle.write_plan.specs.Plan.{mergedPlan, mergedObject}
-use Rattle.write_merged.specs.Merged.{mergedAnswer}
+use Rattle.write_plan.specs.Answer.{mergedAnswer}
 use Rattle.merge_verdict.specs.Verdict.{mergeBounds, isPath, referencesVerdict, lateVerdict, stagesVerdict, carriedVerdict, entriesAnswer, symbolsAnswer, lateAnswer, stagesAnswer, carriedAnswer, mergeVerdict, MergePassed}
 use Rattle.merge_verdict.proofs.Limits.{merge-limits}
 

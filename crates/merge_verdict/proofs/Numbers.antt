@@ -27,7 +27,7 @@ use Rattle.symbols_merge.specs.Listed.{symbolsVerdict}
 use Rattle.symbols_taken.specs.Taken.{takenVerdict}
 use Rattle.symbols_stage.specs.Verdict.{listVerdict, symbolStagesVerdict}
 use Rattle.carry_entries.specs.Carried.{carryVerdict}
-use Rattle.write_merged.specs.Merged.{mergedAnswer}
+use Rattle.write_plan.specs.Answer.{mergedAnswer}
 use Rattle.merge_verdict.specs.Verdict.{referencesVerdict, lateVerdict, stagesVerdict, carriedVerdict, carriedAnswer, mergeVerdict}
 
 -- a number of the table

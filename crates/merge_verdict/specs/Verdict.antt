@@ -34,7 +34,7 @@ use Rattle.carry_clash.specs.Clash.{CLASH, clashFinding}
 use Rattle.carry_entries.specs.Carried.{carryVerdict}
 use Rattle.write_object.specs.Object.{movedFinding}
 use Rattle.write_plan.specs.Plan.{mergedPlan, mergedObject}
-use Rattle.write_merged.specs.Merged.{mergedAnswer}
+use Rattle.write_plan.specs.Answer.{mergedAnswer}
 
 -- refusal 1: the lengths of C, A and the block file, the drop flag, the statics mode, and the lengths of the working buffers
 unfoldable pub mergeBounds : ℕ → ℕ → ℕ → ℕ → ℕ → ℕ → ℕ → ℕ → ℕ → List Bound

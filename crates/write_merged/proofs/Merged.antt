@@ -56,7 +56,8 @@ use Rattle.write_planned.specs.declared.Writing.{Writing}
 use Rattle.write_planned.specs.Held.{heldPlaces, SpansOver, heldPlan, heldBytes, heldOwn, heldNames, heldNameAt}
 use Rattle.write_planned.proofs.Held.{held-still}
 use Rattle.write_planned.proofs.Planned.{strings-at}
-use Rattle.write_merged.specs.Merged.{mergedAnswer, openedAs, openedWith, planEnd, MergedReady, heldAnswer, heldObject}
+use Rattle.write_plan.specs.Answer.{mergedAnswer}
+use Rattle.write_merged.specs.Merged.{openedAs, openedWith, planEnd, MergedReady, heldAnswer, heldObject}
 use Rattle.write_merged.proofs.Plans.{end-inside, next-sized, plan-put, at-is, long-image, plan-written, plan-counted}
 
 pub spans-same : (l : List ℕ) → SpansOver l l

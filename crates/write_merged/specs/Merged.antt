@@ -1,4 +1,4 @@
--- The answer of a merge that has come to writing: refusal 17 of a debug section that cannot move, then the merged object (crate write_plan, specs/Plan.antt), or refusal 21.
+-- Of the code, not of document 01: what is in hand while the merged object is written (crate write_plan: specs/Answer.antt has the answer, specs/Plan.antt the object).
 use Prim.Native.Nat.{ℕ, _+_, _≤_, _<_}
 use mathlib.Core.Path.{_≡_}
 use mathlib.Core.Bool.{Bool, true, cond}
@@ -7,24 +7,15 @@ use lib.ListN.{length, getD}
 use Rattle.base_lists.specs.Windows.{spliced}
 use Rattle.base_fields.specs.declared.ByteOrder.{ByteOrder}
 use Rattle.base_scope.specs.Elf.{SHT_RELA, SHT_REL}
-use Rattle.base_scope.specs.Refusals.{STATICS}
-use Rattle.base_answers.specs.Answers.{Answer, COMPILED, roomFor}
-use Rattle.base_answers.specs.Verdicts.{ifPassed, findingVerdict}
+use Rattle.base_answers.specs.Answers.{Answer}
 use Rattle.elf_records.specs.declared.section.SectionHeader.{SectionHeader}
 use Rattle.elf_readers.specs.Readers.{header, isStrtab}
-use Rattle.blocks_places.specs.Places.{Place}
 use Rattle.write_image.specs.Layout.{endBefore}
-use Rattle.write_object.specs.Object.{Plan, layoutOf, movedFinding}
-use Rattle.write_plan.specs.Plan.{mergedPlan, mergedObject}
+use Rattle.write_object.specs.Object.{Plan, layoutOf}
+use Rattle.write_plan.specs.Plan.{mergedObject}
+use Rattle.write_plan.specs.Answer.{mergedAnswer}
 use Rattle.write_planned.specs.declared.Writing.{Writing}
 use Rattle.write_planned.specs.Held.{heldPlaces, PlanHeld, SpansOver, heldPlan}
-
--- the answer, where the output has so much room
-unfoldable pub mergedAnswer : ByteOrder → List ℕ → List ℕ → List Place → List ℕ → List ℕ → ℕ → ℕ → ℕ → Answer
-mergedAnswer o C A P B path flag mode room =
-    ifPassed (findingVerdict STATICS COMPILED (movedFinding (mergedPlan o C A P B path flag mode) o)) (roomFor (mergedObject o C A P B path flag mode) room)
-
--- ---- of the code: what is in hand
 
 -- the header of a new section, of a type and a size of its entries
 unfoldable pub openedAs : ℕ → ℕ → ℕ → ℕ → ℕ → SectionHeader

@@ -1,3 +1,4 @@
 pub mod Plan
 pub mod Tables
 pub mod Names
+pub mod Answer
