@@ -15,7 +15,7 @@ import check_objects, draft_jobs, model, statics_jobs  # noqa: E402
 
 KINDS = {b'.bss': 8, b'.reginfo': 0x70000006, b'.mdebug': 0x70000005, b'.shstrtab': 3, b'.symtab': 2, b'.strtab': 3}
 ROOM = 1310720                                  # the program's output, where a job does not say less
-BUFFERS = 147456, 81920, 389951, 114688         # docs/SIZES.md: the working buffers of a merge
+BUFFERS = 147456, 57344, 328511, 57344          # docs/SIZES.md: the working buffers of a merge
 LATE_LABELS = b'_asmpp_late_rodata_start', b'_asmpp_late_rodata_end'
 ABSOLUTE, COMMON = 0xFFF1, 0xFFF2
 SH_INFO = 7

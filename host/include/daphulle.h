@@ -37,15 +37,15 @@ extern "C" {
 #define DAPHULLE_PATH_LIMIT 255
 
 /* The least bytes of the working buffers of a draft: `table` and `places`. */
-#define DAPHULLE_OPEN_TABLE 98304
+#define DAPHULLE_OPEN_TABLE 73728
 #define DAPHULLE_PLACE_TABLE 32768
 
 /* The least bytes of the working buffers of a merge: `table`, `places`, `steps`
  * and `index`. */
 #define DAPHULLE_BLOCK_BUFFER 147456
-#define DAPHULLE_PLACE_BUFFER 81920
-#define DAPHULLE_STEP_BUFFER 389951
-#define DAPHULLE_INDEX_BUFFER 114688
+#define DAPHULLE_PLACE_BUFFER 57344
+#define DAPHULLE_STEP_BUFFER 328511
+#define DAPHULLE_INDEX_BUFFER 57344
 
 /* The number of an outcome; 10 to 20 are the merge's alone. Behind each: what its
  * place is; docs/MANUAL.md has the causes. Section codes: 1 .text, 2 .data,
@@ -144,7 +144,7 @@ struct daphulle_job {
     size_t out_length;
 };
 
-/* The working buffers of either call. It has 734,015 bytes: it is for static or
+/* The working buffers of either call. It has 590,655 bytes: it is for static or
  * allocated memory, not for a stack. One that was used may be used again. */
 struct daphulle_work {
     uint8_t table[DAPHULLE_BLOCK_BUFFER];

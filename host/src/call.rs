@@ -6,7 +6,7 @@
 pub const FILE_LIMIT: usize = 1_048_576;
 
 /// The least length of a draft's working buffer `table` (docs/SIZES.md).
-pub const OPEN_TABLE: usize = 98_304;
+pub const OPEN_TABLE: usize = 73_728;
 /// The least length of a draft's working buffer `places`.
 pub const PLACE_TABLE: usize = 32_768;
 
@@ -16,11 +16,11 @@ pub const PATH_LIMIT: usize = 255;
 /// The least length of a merge's working buffer `table` (docs/SIZES.md).
 pub const BLOCK_BUFFER: usize = 147_456;
 /// The least length of a merge's working buffer `places`.
-pub const PLACE_BUFFER: usize = 81_920;
+pub const PLACE_BUFFER: usize = 57_344;
 /// The least length of a merge's working buffer `steps`.
-pub const STEP_BUFFER: usize = 389_951;
+pub const STEP_BUFFER: usize = 328_511;
 /// The least length of a merge's working buffer `index`.
-pub const INDEX_BUFFER: usize = 114_688;
+pub const INDEX_BUFFER: usize = 57_344;
 
 /// What a call gives back, as numbers. Accepted: number, object and place are 0. Refused: the
 /// length is 0, and the others are those of document 01's table.

@@ -102,7 +102,7 @@ fn the_header_has_the_numbers_of_the_library() {
     let work = call::BLOCK_BUFFER + call::PLACE_BUFFER + call::STEP_BUFFER + call::INDEX_BUFFER;
     let mut equal = vec![
         // as the header says it in words
-        ("734015".into(), work),
+        ("590655".into(), work),
         ("sizeof(struct daphulle_work)".into(), work),
         ("DAPHULLE_FILE_LIMIT".into(), call::FILE_LIMIT),
         ("DAPHULLE_PATH_LIMIT".into(), call::PATH_LIMIT),

@@ -10,24 +10,24 @@ use borrow.Author.Tests.{eqb-true, eqb-false}
 use Rattle.base_lists.specs.Ranges.{first}
 use Rattle.base_lists.proofs.Ranges.{by-test, by-lt, by-last, first-here, first-next, first-end, first-ext}
 use Rattle.base_index.specs.Index.{BUCKETS, bucketsOf, bucketOf, nextPlace, headPlace, Room, hashIn, nextIn, headIn, inBucket, Built, Emptied, linked}
-use Rattle.base_index.proofs.Table.{withWord, word-long, hash-before, next-same, next-other, next-not-head, head-same, head-other, head-not-next}
+use Rattle.base_index.proofs.Table.{withNumber, number-long, hash-before, next-same, next-other, next-not-head, head-same, head-other, head-not-next}
 use Rattle.base_index.proofs.Index.{bucket-low, in-bucket, not-in-bucket, bucket-same}
 
 pub room-same : (capacity : ℕ) (T U : List ℕ) → length U ≡ length T → Room capacity T → Room capacity U
 room-same capacity T U e r = record { few = r .few; long = rw e (r .long) }
 
-room-word : (capacity : ℕ) (T : List ℕ) (o x : ℕ) → Room capacity T → o + 4 ≤ length T → Room capacity (withWord T o x)
-room-word capacity T o x r fits = room-same capacity T (withWord T o x) (word-long T o x fits) r
+room-word : (capacity : ℕ) (T : List ℕ) (o x : ℕ) → Room capacity T → o + 2 ≤ length T → Room capacity (withNumber 2 T o x)
+room-word capacity T o x r fits = room-same capacity T (withNumber 2 T o x) (number-long 2 T o x fits) r
 
 -- ---- emptying
 
 pub empty-none : (capacity n : ℕ) (T : List ℕ) → Emptied capacity n 0 T T
 empty-none capacity n T = record { kept = λ k l. refl; head = λ b l. absurd (omega arith) }
 
-pub empty-next : (capacity n i o : ℕ) (T U X : List ℕ) → Room capacity U → i < BUCKETS → o ≡ headPlace capacity i → X ≡ withWord U o n
+pub empty-next : (capacity n i o : ℕ) (T U X : List ℕ) → Room capacity U → i < BUCKETS → o ≡ headPlace capacity i → X ≡ withNumber 2 U o n
     → Emptied capacity n i T U → Emptied capacity n (i + 1) T X
 empty-next capacity n i o T U X room l at e m =
-    let fits : headPlace capacity i + 4 ≤ length U = omega (arith, room .long) in
+    let fits : headPlace capacity i + 2 ≤ length U = omega (arith, room .long) in
     rw (e, at) (record {
       kept = λ k u. hash-before capacity U (headPlace capacity i) n k fits (omega arith) u ∙ m .kept k u;
       head = λ b u. by-last b i (omega arith)
@@ -50,9 +50,9 @@ chain-none capacity n S T m = record {
   next = λ k l u. absurd (omega arith);
 }
 
--- what `link` reads and writes, in its order: the hash, the head of its bucket, and the two words at their places
-pub link-is : (capacity n j h x b o p : ℕ) (T A B : List ℕ) → h ≡ hashIn T j → x ≡ headIn capacity T (bucketOf n h) → o ≡ nextPlace capacity j → A ≡ withWord T o x
-    → b ≡ bucketOf n h → p ≡ headPlace capacity b → B ≡ withWord A p j → B ≡ linked capacity n T j
+-- what `link` reads and writes, in its order: the hash, the head of its bucket, and the two numbers at their places
+pub link-is : (capacity n j h x b o p : ℕ) (T A B : List ℕ) → h ≡ hashIn T j → x ≡ headIn capacity T (bucketOf n h) → o ≡ nextPlace capacity j → A ≡ withNumber 2 T o x
+    → b ≡ bucketOf n h → p ≡ headPlace capacity b → B ≡ withNumber 2 A p j → B ≡ linked capacity n T j
 unfolding linked
 link-is capacity n j h x b o p T A B hash head place next bucket front done = rw (done, next, front, place, head, bucket, hash)
 
@@ -62,10 +62,10 @@ module _ (capacity n j : ℕ) (T U : List ℕ) (room : Room capacity U) (l : j <
   b = bucketOf n (hashIn U j)
 
   abbrev X : List ℕ
-  X = withWord U (nextPlace capacity j) (headIn capacity U b)
+  X = withNumber 2 U (nextPlace capacity j) (headIn capacity U b)
 
   abbrev Y : List ℕ
-  Y = withWord X (headPlace capacity b) j
+  Y = withNumber 2 X (headPlace capacity b) j
 
   own : b ≡ bucketOf n (hashIn T j)
   own = ap (bucketOf n) (m .kept j (omega arith))
@@ -76,7 +76,7 @@ module _ (capacity n j : ℕ) (T U : List ℕ) (room : Room capacity U) (l : j <
   small : b < BUCKETS
   small = omega (arith, inside)
 
-  fits : nextPlace capacity j + 4 ≤ length U
+  fits : nextPlace capacity j + 2 ≤ length U
   fits = omega (arith, room .long)
 
   room-X : Room capacity X

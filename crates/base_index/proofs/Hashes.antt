@@ -37,6 +37,15 @@ pub hash-joined : (r h g m room : ℕ) (a b : List ℕ)
     → r ≡ mixed h (take room b) → h ≡ mixed g (take HASH_BYTES a) → g ≡ hashStart (length a + m) → m ≡ length b → room ≡ HASH_BYTES - length a → r ≡ hashOf (a ++ b)
 hash-joined r h g m room a b told front start long left = told ∙ rw (front, start, long, left) (sym (hash-parts a b))
 
+mixed-low : (h : ℕ) (s : List ℕ) → h < 2 ^ 16 → mixed h s < 2 ^ 16
+mixed-low h [] l = rw (mixed-none h) l
+mixed-low h (x ∷ s) l = rw (mixed-cons h x s) (mixed-low (mixedByte h x) s (omega arith))
+
+-- a hash has two bytes
+pub hash-low : (s : List ℕ) → hashOf s < 2 ^ 16
+unfolding hashOf
+hash-low s = mixed-low (hashStart (length s)) (take HASH_BYTES s) (omega arith)
+
 pub same-hash : (a b : List ℕ) → a ≡ b → hashOf a ≡ hashOf b
 same-hash a b e = ap hashOf e
 
@@ -78,18 +87,18 @@ mixed-front h s room k l =
     ∙ ap (λ (f : List ℕ). mixed (mixed h f) (drop k (take room s))) (take-take k room s l)
 
 -- a rest that goes into the next byte's need not have been taken
-rest-late : (n x : ℕ) → mixedByte (n % 2 ^ 32) x ≡ mixedByte n x
+rest-late : (n x : ℕ) → mixedByte (n % 2 ^ 16) x ≡ mixedByte n x
 rest-late n x =
-    let e : n * 31 + x ≡ 2 ^ 32 * (31 * (n / 2 ^ 32)) + (n % 2 ^ 32 * 31 + x) = omega (arith, div-add-mod' n (2 ^ 32)) in
-    sym (ap (λ (y : ℕ). y % 2 ^ 32) e ∙ mul-add-mod-self-left (2 ^ 32) (31 * (n / 2 ^ 32)) (n % 2 ^ 32 * 31 + x))
+    let e : n * 31 + x ≡ 2 ^ 16 * (31 * (n / 2 ^ 16)) + (n % 2 ^ 16 * 31 + x) = omega (arith, div-add-mod' n (2 ^ 16)) in
+    sym (ap (λ (y : ℕ). y % 2 ^ 16) e ∙ mul-add-mod-self-left (2 ^ 16) (31 * (n / 2 ^ 16)) (n % 2 ^ 16 * 31 + x))
 
 -- so the products of four bytes have their rest taken once
-pub four-bytes : (h a b c d : ℕ) → (h * 923521 + a * 29791 + b * 961 + c * 31 + d) % 2 ^ 32 ≡ mixedByte (mixedByte (mixedByte (mixedByte h a) b) c) d
+pub four-bytes : (h a b c d : ℕ) → (h * 923521 + a * 29791 + b * 961 + c * 31 + d) % 2 ^ 16 ≡ mixedByte (mixedByte (mixedByte (mixedByte h a) b) c) d
 four-bytes h a b c d =
     let two : (h * 31 + a) * 31 + b ≡ h * 961 + a * 31 + b = omega arith in
     let three : (h * 961 + a * 31 + b) * 31 + c ≡ h * 29791 + a * 961 + b * 31 + c = omega arith in
     let four : (h * 29791 + a * 961 + b * 31 + c) * 31 + d ≡ h * 923521 + a * 29791 + b * 961 + c * 31 + d = omega arith in
-    let m : ℕ → ℕ = λ (n : ℕ). n % 2 ^ 32 in
+    let m : ℕ → ℕ = λ (n : ℕ). n % 2 ^ 16 in
     sym
     (ap (λ (n : ℕ). mixedByte (mixedByte n c) d) (rest-late (h * 31 + a) b ∙ ap m two)
     ∙ ap (λ (n : ℕ). mixedByte n d) (rest-late (h * 961 + a * 31 + b) c ∙ ap m three)

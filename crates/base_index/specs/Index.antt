@@ -27,7 +27,7 @@ HASH_BYTES = 2048
 
 -- a hash with one more byte, and with a string behind it
 abbrev pub mixedByte : ℕ → ℕ → ℕ
-mixedByte h x = (h * 31 + x) % 2 ^ 32
+mixedByte h x = (h * 31 + x) % 2 ^ 16
 
 unfoldable pub mixed : ℕ → List ℕ → ℕ
 mixed h [] = h
@@ -35,7 +35,7 @@ mixed h (x ∷ s) = mixed (mixedByte h x) s
 
 -- the hash of a string of n bytes before any of them: strings that share their first bytes may differ in length alone
 abbrev pub hashStart : ℕ → ℕ
-hashStart n = n % 2 ^ 32
+hashStart n = n % 2 ^ 16
 
 unfoldable pub hashOf : List ℕ → ℕ
 hashOf s = mixed (hashStart (length s)) (take HASH_BYTES s)
@@ -47,28 +47,28 @@ bucketsOf n = min (n + 1) BUCKETS
 unfoldable pub bucketOf : ℕ → ℕ → ℕ
 bucketOf n h = h % bucketsOf n
 
--- the layout of a table for `capacity` items, a word for each: their hashes, their nexts, then the heads of the buckets
+-- the layout of a table for `capacity` items, two bytes for each number: their hashes, their nexts, then the heads of the buckets
 abbrev pub hashPlace : ℕ → ℕ
-hashPlace k = 4 * k
+hashPlace k = 2 * k
 
 abbrev pub nextPlace : ℕ → ℕ → ℕ
-nextPlace capacity k = 4 * capacity + 4 * k
+nextPlace capacity k = 2 * capacity + 2 * k
 
 abbrev pub headPlace : ℕ → ℕ → ℕ
-headPlace capacity b = 8 * capacity + 4 * b
+headPlace capacity b = 4 * capacity + 2 * b
 
 pub record Room (capacity : ℕ) (T : List ℕ) : Type 0 where
   pub few : capacity ≤ ITEM_LIMIT
-  pub long : 8 * capacity + 4 * BUCKETS ≤ length T
+  pub long : 4 * capacity + 2 * BUCKETS ≤ length T
 
 unfoldable pub hashIn : List ℕ → ℕ → ℕ
-hashIn T k = number Big 4 T (hashPlace k)
+hashIn T k = number Big 2 T (hashPlace k)
 
 unfoldable pub nextIn : ℕ → List ℕ → ℕ → ℕ
-nextIn capacity T k = number Big 4 T (nextPlace capacity k)
+nextIn capacity T k = number Big 2 T (nextPlace capacity k)
 
 unfoldable pub headIn : ℕ → List ℕ → ℕ → ℕ
-headIn capacity T b = number Big 4 T (headPlace capacity b)
+headIn capacity T b = number Big 2 T (headPlace capacity b)
 
 -- item k is in bucket b of those of n items
 unfoldable pub inBucket : ℕ → List ℕ → ℕ → ℕ → Bool
@@ -94,4 +94,4 @@ pub record Emptied (capacity n i : ℕ) (before after : List ℕ) : Type 0 where
 -- item j of n goes to the front of its bucket
 unfoldable pub linked : ℕ → ℕ → List ℕ → ℕ → List ℕ
 linked capacity n T j =
-    spliced (spliced T (nextPlace capacity j) (encoded Big 4 (headIn capacity T (bucketOf n (hashIn T j))))) (headPlace capacity (bucketOf n (hashIn T j))) (encoded Big 4 j)
+    spliced (spliced T (nextPlace capacity j) (encoded Big 2 (headIn capacity T (bucketOf n (hashIn T j))))) (headPlace capacity (bucketOf n (hashIn T j))) (encoded Big 2 j)

@@ -19,7 +19,7 @@ pub const HASH_BYTES: usize = 2048;
 fn mix(h: u32, b: u8) -> u32
     ensures { λ r. ⌜ r ≡ mixedByte h b ⌝ }
 {
-    ((h as u64 * 31 + b as u64) % 4294967296) as u32
+    ((h as u64 * 31 + b as u64) % 65536) as u32
 }
 
 // A hash with four more bytes: one product behind the other would wait for each.
@@ -27,7 +27,7 @@ fn mix_four(h: u32, a: u8, b: u8, c: u8, d: u8) -> u32
     ensures { λ r. ⌜ r ≡ mixedByte (mixedByte (mixedByte (mixedByte h a) b) c) d ⌝ }
 {
     let sum = h as u64 * 923521 + a as u64 * 29791 + b as u64 * 961 + c as u64 * 31 + d as u64;
-    (sum % 4294967296) as u32
+    (sum % 65536) as u32
 }
 
 // The lesser of two lengths.
@@ -72,7 +72,7 @@ pub fn hash_on(h: u32, s: &[u8], room: usize) -> u32
 pub fn hash_start(n: usize) -> u32
     ensures { λ r. ⌜ r ≡ hashStart n ⌝ }
 {
-    (n % 4294967296) as u32
+    (n % 65536) as u32
 }
 
 // The hash of a string.
@@ -123,7 +123,7 @@ fn next_place(cap: usize, k: usize) -> usize
     requires { ⌜ (cap ≤ ITEM_LIMIT) × (k < cap) ⌝ }
     ensures { λ r. ⌜ r ≡ nextPlace cap k ⌝ }
 {
-    4 * cap + 4 * k
+    2 * cap + 2 * k
 }
 
 // Where the head of bucket b stands.
@@ -131,39 +131,39 @@ fn head_place(cap: usize, b: usize) -> usize
     requires { ⌜ (cap ≤ ITEM_LIMIT) × (b < BUCKETS) ⌝ }
     ensures { λ r. ⌜ r ≡ headPlace cap b ⌝ }
 {
-    8 * cap + 4 * b
+    4 * cap + 2 * b
 }
 
 // Puts the hash of item k.
 pub fn put_hash(table: &mut [u8], k: usize, h: u32)
-    requires { ⌜ hashPlace k + 4 ≤ length (now table) ⌝ }
-    ensures { λ _. ⌜ now (table .exit) ≡ spliced (now (table .entry)) (hashPlace k) (encoded Big 4 h) ⌝ }
+    requires { ⌜ (hashPlace k + 2 ≤ length (now table)) × (h < 2 ^ 16) ⌝ }
+    ensures { λ _. ⌜ now (table .exit) ≡ spliced (now (table .entry)) (hashPlace k) (encoded Big 2 h) ⌝ }
 {
-    base_fields::write32(ByteOrder::Big, table, 4 * k, h);
+    base_fields::write16(ByteOrder::Big, table, 2 * k, h);
 }
 
 // The hash of item k.
 pub fn hash_at(table: &[u8], k: usize) -> u32
-    requires { ⌜ hashPlace k + 4 ≤ length (now table) ⌝ }
+    requires { ⌜ hashPlace k + 2 ≤ length (now table) ⌝ }
     ensures { λ r. ⌜ r ≡ hashIn (now (table .entry)) k ⌝ }
 {
-    base_fields::read32(ByteOrder::Big, table, 4 * k)
+    base_fields::read16(ByteOrder::Big, table, 2 * k)
 }
 
 // The first of n items in a hash's bucket.
 pub fn head_of(table: &[u8], cap: usize, n: usize, h: u32) -> usize
     requires { ⌜ Room cap (now table) ⌝ }
-    ensures { λ r. ⌜ (r ≡ headIn cap (now (table .entry)) (bucketOf n h)) × (r < 2 ^ 32) ⌝ }
+    ensures { λ r. ⌜ (r ≡ headIn cap (now (table .entry)) (bucketOf n h)) × (r < 2 ^ 16) ⌝ }
 {
-    base_fields::read32(ByteOrder::Big, table, head_place(cap, bucket_of(n, h))) as usize
+    base_fields::read16(ByteOrder::Big, table, head_place(cap, bucket_of(n, h))) as usize
 }
 
 // The next item of item k's bucket.
 pub fn next_of(table: &[u8], cap: usize, k: usize) -> usize
     requires { ⌜ Room cap (now table) × (k < cap) ⌝ }
-    ensures { λ r. ⌜ (r ≡ nextIn cap (now (table .entry)) k) × (r < 2 ^ 32) ⌝ }
+    ensures { λ r. ⌜ (r ≡ nextIn cap (now (table .entry)) k) × (r < 2 ^ 16) ⌝ }
 {
-    base_fields::read32(ByteOrder::Big, table, next_place(cap, k)) as usize
+    base_fields::read16(ByteOrder::Big, table, next_place(cap, k)) as usize
 }
 
 // Empties every bucket of an index of n items.
@@ -174,7 +174,7 @@ fn empty_heads(table: &mut [u8], cap: usize, n: usize)
     let most = buckets_of(n);
     let mut b: usize = 0;
     while b < most {
-        base_fields::write32(ByteOrder::Big, table, head_place(cap, b), n as u32);
+        base_fields::write16(ByteOrder::Big, table, head_place(cap, b), n as u32);
         b += 1;
     }
 }
@@ -186,8 +186,8 @@ fn link(table: &mut [u8], cap: usize, n: usize, j: usize)
 {
     let h = hash_at(table, j);
     let next = head_of(table, cap, n, h) as u32;
-    base_fields::write32(ByteOrder::Big, table, next_place(cap, j), next);
-    base_fields::write32(
+    base_fields::write16(ByteOrder::Big, table, next_place(cap, j), next);
+    base_fields::write16(
         ByteOrder::Big,
         table,
         head_place(cap, bucket_of(n, h)),

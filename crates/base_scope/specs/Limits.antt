@@ -60,7 +60,8 @@ WRITTEN_LIMIT = 1286
 abbrev pub ID_LIMIT : ℕ
 ID_LIMIT = SYMBOL_LIMIT + SYMBOL_LIMIT + STATIC_LIMIT
 
--- the bytes of a row: twelve words for a block, two for a line, two for a span, three for a block in the late step, six for a static, two for an id
+-- the bytes of a row: twelve words for a block, two for a line, two for a span, three for a block in the late step, two for an id; a static has 15 bytes (the crate
+-- statics_table, specs/Table.antt)
 abbrev pub BLOCK_ROW : ℕ
 BLOCK_ROW = 48
 
@@ -74,7 +75,7 @@ abbrev pub LATE_ROW : ℕ
 LATE_ROW = 12
 
 abbrev pub STATIC_ROW : ℕ
-STATIC_ROW = 24
+STATIC_ROW = 15
 
 abbrev pub ID_ROW : ℕ
 ID_ROW = 8
@@ -110,17 +111,17 @@ GLABEL_TABLE = 4 * SYMBOL_LIMIT
 abbrev pub ID_TABLE : ℕ
 ID_TABLE = ID_ROW * ID_LIMIT
 
--- a word for each id, or for each position of the list of them
+-- two bytes for each id, or for each position of the list of them
 abbrev pub POSITION_TABLE : ℕ
-POSITION_TABLE = 4 * ID_LIMIT
+POSITION_TABLE = 2 * ID_LIMIT
 
--- an index by hash of as many items: two words for each, and a word for each of 4,096 buckets (`base_index`, specs/Index.antt)
+-- an index by hash of as many items: four bytes for each, and two for each of 4,096 buckets (`base_index`, specs/Index.antt)
 abbrev pub INDEX_TABLE : ℕ
-INDEX_TABLE = 8 * ID_LIMIT + 16384
+INDEX_TABLE = 4 * ID_LIMIT + 8192
 
 -- the same of an object's symbols; and with the table of blocks before it, what taking in C and the block file needs
 abbrev pub SYMBOL_INDEX : ℕ
-SYMBOL_INDEX = 8 * SYMBOL_LIMIT + 16384
+SYMBOL_INDEX = 4 * SYMBOL_LIMIT + 8192
 
 abbrev pub OPEN_TABLE : ℕ
 OPEN_TABLE = BLOCK_TABLE + SYMBOL_INDEX

@@ -40,7 +40,7 @@ pub const SPAN_ROW: usize = 8;
 
 pub const LATE_ROW: usize = 12;
 
-pub const STATIC_ROW: usize = 24;
+pub const STATIC_ROW: usize = 15;
 
 pub const ID_ROW: usize = 8;
 
@@ -55,7 +55,7 @@ pub const LATE_WORDS: usize = 12300;
 
 pub const LATE_TABLE: usize = 222015;
 
-pub const STATIC_TABLE: usize = 98304;
+pub const STATIC_TABLE: usize = 61440;
 
 pub const USED_TABLE: usize = 4096;
 
@@ -63,13 +63,13 @@ pub const GLABEL_TABLE: usize = 16384;
 
 pub const ID_TABLE: usize = 98304;
 
-pub const POSITION_TABLE: usize = 49152;
+pub const POSITION_TABLE: usize = 24576;
 
-pub const INDEX_TABLE: usize = 114688;
+pub const INDEX_TABLE: usize = 57344;
 
-pub const SYMBOL_INDEX: usize = 49152;
+pub const SYMBOL_INDEX: usize = 24576;
 
-pub const OPEN_TABLE: usize = 98304;
+pub const OPEN_TABLE: usize = 73728;
 
 pub const ELFCLASS32: u8 = 1;
 

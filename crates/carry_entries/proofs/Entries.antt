@@ -26,7 +26,7 @@ use Rattle.carry_entries.specs.declared.Side.{Side}
 use Rattle.carry_entries.specs.declared.EntryTable.{EntryTable}
 use Rattle.carry_entries.specs.Entries.{isLeftOut, Carrying, OFFSETS, entryGoal, entrySymbol, isKept, carriedEntry}
 use Rattle.carry_entries.specs.Entries.{keptCount, carriedBytes, isLost, lossIn, lossAt, lossFinding}
-use Rattle.carry_entries.specs.Code.{pickTables, goalIn, carryingIn, isKeptEntry, symbolIn, isLostEntry, carriedTo, isKeptIn, keptIn, keepsAll, broughtBytes, entryTableOf, TableRead}
+use Rattle.carry_entries.specs.Code.{pickTables, goalIn, carryingIn, isKeptEntry, symbolIn, isLostEntry, carriedTo, isKeptIn, keptIn, keepsAll, broughtBytes, entryTableOf, TableRead, movesOf}
 use Rattle.carry_entries.proofs.Goals.{keeps-entry}
 
 -- ---- how long an entry is
@@ -176,7 +176,7 @@ module _ (F : List ℕ) (s : Side) (rows late N : List ℕ) where
     module _ (e : RelocationEntry) (entry : e ≡ relocation (s .order) F (table .index) k) where
       -- ---- written
 
-      module _ (g : Goal) (goal : g ≡ goalIn s rows late (table .code) (e .«r_offset»)) (b : Bool) (left : b ≡ isLeftOut g) where
+      module _ (g : Goal) (goal : g ≡ goalIn (movesOf s) rows late (table .code) (e .«r_offset»)) (b : Bool) (left : b ≡ isLeftOut g) where
         goal-same : g ≡ entryGoal (s .order) F (carryingIn F s rows late N) (table .index) k
         unfolding entryGoal carryingIn
         goal-same = goal ∙ rw (code-same, entry)

@@ -1,12 +1,13 @@
 -- What each way through the code says of one entry: where it goes, what its symbol becomes, and whether it is lost. Assumes nothing.
-use Prim.Native.Nat.{ℕ, zero, suc, _+_, _*_, _^_, _≤_, _<_}
+use Prim.Native.Nat.{ℕ, zero, suc, _+_, _-_, _*_, _%_, _^_, _≤_, _<_}
 use mathlib.Core.Path.{_≡_, refl, sym, ap, _∙_}
-use mathlib.Core.Bool.{Bool, true, false, not, _&&_, _||_}
+use mathlib.Core.Logic.{inl, inr}
+use mathlib.Core.Bool.{Bool, true, false, not, cond, _&&_, _||_}
 use mathlib.Core.List.{List}
 use native.Mathlib.Omega.{arith}
 use lib.ListN.{length}
 use lib.Dec.{eqb, leb, ltb}
-use borrow.Author.Tests.{eq-eqb, ne-eqb, leb-true, ltb-true}
+use borrow.Author.Tests.{eq-eqb, ne-eqb, leb-true, lt-ltb, ltb-true}
 use Rattle.base_lists.proofs.Ranges.{by-test, both, by-lt, and-parts}
 use Rattle.base_fields.specs.declared.ByteOrder.{ByteOrder}
 use Rattle.base_fields.specs.Numbers.{number}
@@ -26,19 +27,17 @@ use Rattle.elf_relocations.proofs.Relocations.{rela-read, relocation-inside}
 use Rattle.elf_check.specs.declared.View.{View}
 use Rattle.elf_check.specs.View.{viewOf}
 use Rattle.blocks_spans.specs.declared.Span.{Span}
-use Rattle.blocks_spans.specs.declared.NextSpan.{NextSpan}
-use Rattle.blocks_spans.specs.declared.NextSpan.the-variants.{NoSpan, Next}
-use Rattle.blocks_spans.specs.Spans.{spanAt, replacedWord}
-use Rattle.blocks_spans.specs.Table.{spansIn, Rows, spanFrom, nextSpan}
-use Rattle.blocks_spans.proofs.Spans.{replaced-none}
-use Rattle.blocks_spans.proofs.Table.{told-none, told-span, from-none, from-gap}
+use Rattle.blocks_spans.specs.Spans.{spanEnd, spanAt, covers, replacedWord}
+use Rattle.blocks_spans.specs.Table.{spanIn, spansIn, Rows}
+use Rattle.blocks_spans.proofs.Spans.{covers-of, covers-not, covered-none, span-some, ends-up, replaced-none, replaced-over}
+use Rattle.blocks_spans.proofs.Table.{length-in, span-in}
 use Rattle.late_lookups.specs.declared.LatePlace.{LatePlace}
 use Rattle.late_lookups.specs.declared.LatePlace.the-variants.{Moved, Unmoved as NotMoved}
 use Rattle.late_lookups.specs.Fields.{offsetAt, jumpAt}
 use Rattle.symbols_taken.specs.Used.{codeOf, isSourceTable}
 use Rattle.symbols_taken.specs.Code.{codeIn}
 use Rattle.symbols_taken.proofs.Sections.{code-is, table-kind}
-use Rattle.symbols_rows.specs.Rows.{wordIn}
+use Rattle.symbols_rows.specs.Rows.{halfIn}
 use Rattle.symbols_numbers.specs.declared.NewSymbol.{NewSymbol}
 use Rattle.symbols_numbers.specs.Numbers.{newSymbol, newIn}
 use Rattle.symbols_numbers.proofs.Leaves.{new-in, new-past}
@@ -46,11 +45,12 @@ use Rattle.carry_clash.specs.Clash.{isCarried}
 use Rattle.carry_entries.specs.declared.Goal.{Goal}
 use Rattle.carry_entries.specs.declared.Goal.the-variants.{To, LeftOut, Unmoved}
 use Rattle.carry_entries.specs.declared.Side.{Side}
+use Rattle.carry_entries.specs.declared.Moves.{Moves}
 use Rattle.carry_entries.specs.declared.EntryTable.{EntryTable}
 use Rattle.carry_entries.specs.declared.Gap.{Gap}
 use Rattle.carry_entries.specs.Entries.{isLeftOut, isStuck, goalPlace, isInResult, newNumber}
 use Rattle.carry_entries.specs.Carried.{pickGoal}
-use Rattle.carry_entries.specs.Code.{lateGoal, pickTables, isGoneIn, goalIn, isKeptEntry, symbolIn, isLostEntry, carriedTo, isKeptIn, keepsAll, entryTableOf, TableRead, IsGap, SymbolsRead}
+use Rattle.carry_entries.specs.Code.{lateGoal, pickTables, movesOf, isGoneIn, goalIn, isKeptEntry, symbolIn, isLostEntry, carriedTo, isKeptIn, keepsAll, entryTableOf, TableRead, IsGap, SymbolsRead}
 
 -- ---- one test behind another
 
@@ -72,23 +72,51 @@ and-none : (a : Bool) → false ≡ (a && false)
 and-none true = refl
 and-none false = refl
 
+pub there : (t : Bool) (a b x : ℕ) → t ≡ true → x ≡ a → x ≡ cond t a b
+there t a b x y e = rw y e
+
+pub not-there : (t : Bool) (a b : ℕ) → t ≡ false → b ≡ cond t a b
+not-there t a b n = rw n
+
 module _ (rows : List ℕ) (n : ℕ) where
   pub gap-none : (g : Gap) → g .high ≡ 0 → IsGap rows n g
   gap-none g e = record { clear = λ x l u. absurd (omega (arith, e)) }
 
-  module _ (w : Rows rows n) (k : ℕ) (r : NextSpan) (found : r ≡ nextSpan (spansIn rows n) k) where
-    pub gap-behind : r ≡ NoSpan → (m : ℕ) → IsGap rows n (record { low = k; high = m })
-    gap-behind t m = record {
-      clear = λ x l u. replaced-none (spansIn rows n) x (from-none (spansIn rows n) (w .ascends) k (told-none (spansIn rows n) k (sym found ∙ t)) x l);
+  -- between the end of the row before row r and the place of row r nothing is covered
+  module _ (w : Rows rows n) (r : ℕ) (few : r ≤ n) where
+    end-before : (i : ℕ) → i < r → spanEnd (spanAt (spansIn rows n) i) ≤ cond (ltb 0 r) (spanEnd (spanIn rows (r - 1))) 0
+    end-before i h =
+        let p : r - 1 < n = omega arith in
+        let q : r - 1 < length (spansIn rows n) = omega (arith, length-in rows n) in
+        rw (lt-ltb 0 r (omega arith), ← span-in rows n (r - 1) p) (ends-up (spansIn rows n) (w .ascends) i (r - 1) (omega arith) q)
+
+    place-behind : (m i : ℕ) → r ≤ i → i < n → cond (ltb r n) (spanIn rows r .place) m ≤ spanAt (spansIn rows n) i .place
+    place-behind m i l h =
+        let p : r < n = omega arith in
+        let q : i < length (spansIn rows n) = omega (arith, length-in rows n) in
+        let u : spanAt (spansIn rows n) r .place ≤ spanAt (spansIn rows n) i .place = by-lt r i
+        (λ g. omega (arith, w .ascends .apart r i g q, span-some (spansIn rows n) (w .ascends) r (omega arith)))
+        (λ g. let e : r ≡ i = omega arith in rw e (omega arith)) in
+        rw (lt-ltb r n p, ← span-in rows n r p) u
+
+    pub gap-rows : (l : ℕ) → l ≡ cond (ltb 0 r) (spanEnd (spanIn rows (r - 1))) 0 → (m h : ℕ) → h ≡ cond (ltb r n) (spanIn rows r .place) m
+        → IsGap rows n (record { low = l; high = h; row = r })
+    gap-rows l e m h f = record {
+      clear = λ x below above. replaced-none (spansIn rows n) x (covered-none (spansIn rows n) x (λ i v. covers-not (spansIn rows n) x i (by-lt i r
+          (λ g. inl (omega (arith, e, end-before i g)))
+          (λ g. inr (omega (arith, f, place-behind m i g (rw (length-in rows n) at v)))))));
     }
 
-    pub gap-before : (s : Span) → r ≡ Next s → IsGap rows n (record { low = k; high = s .place })
-    gap-before s t = record {
-      clear = λ x l u.
-          let h = told-span (spansIn rows n) k s (sym found ∙ t) in
-          let p : s .place ≡ spanAt (spansIn rows n) (spanFrom (spansIn rows n) k) .place = ap (λ (y : Span). y .place) (h .1) in
-          replaced-none (spansIn rows n) x (from-gap (spansIn rows n) (w .ascends) k (h .0) x l (rw p at u));
-    }
+  -- in a span, every fourth offset starts a replaced word
+  pub word-in : Rows rows n → (r : ℕ) → r < n → (s : Span) → s ≡ spanIn rows r → (x : ℕ) → s .place ≤ x → x - s .place < s .size
+      → eqb ((x - s .place) % 4) 0 ≡ replacedWord (spansIn rows n) x
+  unfolding spanEnd
+  word-in w r h s is x l u =
+      let e : s ≡ spanAt (spansIn rows n) r = is ∙ sym (span-in rows n r h) in
+      let v : x < s .place + s .size = omega arith in
+      let q : r < length (spansIn rows n) = omega (arith, length-in rows n) in
+      let c : covers (spansIn rows n) x r ≡ true = covers-of (spansIn rows n) x r (rw e at l) (rw e at v) in
+      ap (λ (y : Span). eqb ((x - y .place) % 4) 0) e ∙ sym (replaced-over (spansIn rows n) x (w .ascends) r q c)
 
   module _ (g : Gap) (w : IsGap rows n g) (x : ℕ) (t : Bool) (e : t ≡ (leb (g .low) x && ltb x (g .high))) where
     pub gap-clear : t ≡ true → (a : Bool) → false ≡ (a && replacedWord (spansIn rows n) x)
@@ -98,7 +126,12 @@ module _ (rows : List ℕ) (n : ℕ) where
 
 -- ---- where an entry goes
 
-module _ (s : Side) (rows late : List ℕ) (c x : ℕ) where
+-- one that goes to a place is not left out
+pub to-kept : (x : ℕ) → false ≡ isLeftOut (To x)
+unfolding isLeftOut
+to-kept x = refl
+
+module _ (s : Moves) (rows late : List ℕ) (c x : ℕ) where
   module _ (t : Bool) (e : t ≡ (leavesOut c && replacedWord (spansIn rows (s .spans)) x)) where
     pub gone-replaced : t ≡ true → true ≡ isGoneIn s rows late c x
     unfolding isGoneIn
@@ -116,6 +149,18 @@ module _ (s : Side) (rows late : List ℕ) (c x : ℕ) where
     pub goal-stays : t ≡ false → To x ≡ goalIn s rows late c x
     unfolding goalIn
     goal-stays n = rw (← e, n, yes)
+
+  -- C's, outside of late words: a gap holds it, or no word is replaced there
+  module _ (yes : s .compiled ≡ true) (d : Bool) (target : d ≡ isLateTarget c) (no : d ≡ false) where
+    goal-clear : false ≡ (leavesOut c && replacedWord (spansIn rows (s .spans)) x) → To x ≡ goalIn s rows late c x
+    unfolding goalIn isGoneIn
+    goal-clear f = rw (yes, ← f, ← target, no)
+
+    pub goal-gap : (g : Gap) → IsGap rows (s .spans) g → (t : Bool) → t ≡ (leb (g .low) x && ltb x (g .high)) → t ≡ true → To x ≡ goalIn s rows late c x
+    goal-gap g w t e y = goal-clear (gap-clear rows (s .spans) g w x t e y (leavesOut c))
+
+    pub goal-whole : (t : Bool) → t ≡ leavesOut c → t ≡ false → To x ≡ goalIn s rows late c x
+    goal-whole t e n = goal-clear (rw (← e, n))
 
   module _ (no : s .compiled ≡ false) where
     pub goal-late : c ≡ LATE-RODATA → (g : Goal) → g ≡ pickGoal (s .runs) (lateGoal (offsetAt late (s .blocks) x)) Unmoved → g ≡ goalIn s rows late c x
@@ -158,7 +203,7 @@ module _ (s : Side) (N : List ℕ) (info : ℕ) where
   unfolding symbolIn newNumber
   number-small w = by-lt (symbolOf info) (s .view .symbols .count)
       (λ l.
-      rw (new-in N (s .first) (s .view .symbols .count) (symbolOf info) l, number-of (wordIn N (s .first + symbolOf info)))
+      rw (new-in N (s .first) (s .view .symbols .count) (symbolOf info) l, number-of (halfIn N (s .first + symbolOf info)))
       (w .few (s .first + symbolOf info) (omega arith)))
       (λ l. rw (new-past N (s .first) (s .view .symbols .count) (symbolOf info) l) (omega arith))
 
@@ -179,19 +224,43 @@ module _ (s : Side) (N : List ℕ) (g : Goal) (e : RelocationEntry) where
 
 -- ---- whether it is lost
 
-module _ (s : Side) (rows late N : List ℕ) (c : ℕ) (e : RelocationEntry) (g : Goal) (goal : g ≡ goalIn s rows late c (e .«r_offset»)) (t : Bool) (out : t ≡ isLeftOut g) where
-  pub lost-out : t ≡ true → false ≡ isLostEntry s rows late N c e
+-- a late word that is not moved is not left out, and is none of C's
+stuck-kept : (g : Goal) → isStuck g ≡ (not (isLeftOut g) && (isStuck g || false))
+unfolding isStuck isLeftOut
+stuck-kept (To x) = refl
+stuck-kept LeftOut = refl
+stuck-kept Unmoved = refl
+
+never-stuck : (b : Bool) (x : ℕ) → isStuck (pickGoal b LeftOut (To x)) ≡ false
+unfolding isStuck
+never-stuck true x = refl
+never-stuck false x = refl
+
+or-true : (a b : Bool) → a ≡ (a && (b || true))
+or-true true true = refl
+or-true true false = refl
+or-true false b = refl
+
+module _ (s : Side) (rows late N : List ℕ) (c : ℕ) (e : RelocationEntry) (m : NewSymbol) (is : m ≡ symbolIn s N (e .«r_info»)) (b : Bool) (found : b ≡ isInResult m) where
+  module _ (y : b ≡ true) where
+    lost-there : isStuck (goalIn (movesOf s) rows late c (e .«r_offset»)) ≡ isLostEntry s rows late N c e
+    unfolding isLostEntry isKeptEntry
+    lost-there = rw (← is, ← found, y) (stuck-kept (goalIn (movesOf s) rows late c (e .«r_offset»)))
+
+    pub lost-never : s .compiled ≡ true → false ≡ isLostEntry s rows late N c e
+    unfolding goalIn isGoneIn
+    lost-never d = sym (rw d (never-stuck (isGoneIn (movesOf s) rows late c (e .«r_offset»)) (e .«r_offset»))) ∙ lost-there
+
+    pub lost-unmoved : s .compiled ≡ false → (c ≡ LATE-RODATA → ⊥) → false ≡ isLostEntry s rows late N c e
+    unfolding isStuck
+    lost-unmoved n d = ap isStuck (goal-same (movesOf s) rows late c (e .«r_offset») n d) ∙ lost-there
+
+    pub lost-stuck : (g : Goal) → g ≡ goalIn (movesOf s) rows late c (e .«r_offset») → (u : Bool) → u ≡ isStuck g → u ≡ isLostEntry s rows late N c e
+    lost-stuck g goal u stuck = stuck ∙ ap isStuck goal ∙ lost-there
+
+  pub lost-gone : b ≡ false → (g : Goal) → g ≡ goalIn (movesOf s) rows late c (e .«r_offset») → (t : Bool) → t ≡ isLeftOut g → not t ≡ isLostEntry s rows late N c e
   unfolding isLostEntry isKeptEntry
-  lost-out y = rw (← goal, ← out, y)
-
-  module _ (n : t ≡ false) (u : Bool) (stuck : u ≡ isStuck g) where
-    pub lost-stuck : u ≡ true → true ≡ isLostEntry s rows late N c e
-    unfolding isLostEntry isKeptEntry
-    lost-stuck y = rw (← goal, ← out, n, ← stuck, y)
-
-    pub lost-symbol : u ≡ false → (m : NewSymbol) → m ≡ symbolIn s N (e .«r_info») → (b : Bool) → b ≡ isInResult m → not b ≡ isLostEntry s rows late N c e
-    unfolding isLostEntry isKeptEntry
-    lost-symbol f m is b q = rw (← goal, ← out, n, ← stuck, f, ← is, ← q)
+  lost-gone f g goal t out = rw (← is, ← found, f, ← goal, ← out) (or-true (not t) (isStuck g))
 
 -- ---- tables
 
@@ -286,7 +355,7 @@ late-kept true NotMoved = refl
 late-kept false p = refl
 
 module _ (s : Side) (rows late : List ℕ) (c : ℕ) (all : keepsAll s c ≡ true) where
-  goal-kept : (x : ℕ) → isLeftOut (goalIn s rows late c x) ≡ false
+  goal-kept : (x : ℕ) → isLeftOut (goalIn (movesOf s) rows late c x) ≡ false
   unfolding goalIn isGoneIn keepsAll isLeftOut
   goal-kept x = by-test (s .compiled)
       (λ y.
@@ -303,7 +372,7 @@ module _ (s : Side) (rows late : List ℕ) (c : ℕ) (all : keepsAll s c ≡ tru
 -- entry k of a table in hand is kept
 module _ (F : List ℕ) (s : Side) (rows late : List ℕ) (table : EntryTable) (k : ℕ) where
   pub kept-read : table ≡ entryTableOf (s .order) F (table .index) → (x : ℕ) → x ≡ relocation (s .order) F (table .index) k .«r_offset»
-      → (g : Goal) → g ≡ goalIn s rows late (table .code) x → (t : Bool) → t ≡ isLeftOut g → not t ≡ isKeptIn F s rows late (table .index) k
+      → (g : Goal) → g ≡ goalIn (movesOf s) rows late (table .code) x → (t : Bool) → t ≡ isLeftOut g → not t ≡ isKeptIn F s rows late (table .index) k
   unfolding isKeptIn isKeptEntry entryTableOf
   kept-read is x offset g goal t out =
       let code : table .code ≡ codeOf (s .order) F (section (s .order) F (table .index) .«sh_info») = ap (λ (y : EntryTable). y .code) is in

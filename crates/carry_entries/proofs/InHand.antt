@@ -36,7 +36,7 @@ use Rattle.symbols_taken.specs.Code.{LateIn}
 use Rattle.symbols_ids.specs.Entries.{latePlace}
 use Rattle.symbols_ids.specs.Ids.{firstA, firstStatic, candidates, mergeCandidates}
 use Rattle.symbols_merge.specs.Merged.{numberOf}
-use Rattle.symbols_rows.specs.Rows.{wordIn}
+use Rattle.symbols_rows.specs.Rows.{halfIn}
 use Rattle.symbols_numbers.specs.Numbers.{newIn}
 use Rattle.symbols_numbers.specs.Result.{NumbersOf}
 use Rattle.symbols_numbers.proofs.Result.{new-is, number-few}
@@ -46,18 +46,18 @@ use Rattle.carry_entries.specs.declared.Goal.the-variants.{To, LeftOut, 
 use Rattle.carry_entries.specs.declared.Side.{Side}
 use Rattle.carry_entries.specs.Entries.{Carrying, keptCount, carriedBytes, lossFinding}
 use Rattle.carry_entries.specs.Carried.{LOST_ENTRY, pickGoal, isGone, goalC, goalA, carryingC, carryingA, carryVerdict}
-use Rattle.carry_entries.specs.Code.{lateGoal, pickTables, isGoneIn, goalIn, carryingIn, keptIn, SymbolsRead}
+use Rattle.carry_entries.specs.Code.{lateGoal, pickTables, isGoneIn, goalIn, carryingIn, keptIn, SymbolsRead, movesOf}
 use Rattle.carry_entries.specs.InHand.{CarryHand, CompiledSide, AssembledSide}
 use Rattle.carry_entries.proofs.Entries.{kept-is}
 
 -- ---- where entries go
 
-goal-compiled : (s : Side) (rows late : List ℕ) (c x : ℕ) → s .compiled ≡ true → goalIn s rows late c x ≡ pickGoal (isGoneIn s rows late c x) LeftOut (To x)
+goal-compiled : (s : Side) (rows late : List ℕ) (c x : ℕ) → s .compiled ≡ true → goalIn (movesOf s) rows late c x ≡ pickGoal (isGoneIn (movesOf s) rows late c x) LeftOut (To x)
 unfolding goalIn
 goal-compiled s rows late c x y = rw y
 
 goal-assembled : (s : Side) (rows late : List ℕ) (c x : ℕ) → s .compiled ≡ false
-    → goalIn s rows late c x ≡ pickGoal (eqb c LATE-RODATA) (pickGoal (s .runs) (lateGoal (offsetAt late (s .blocks) x)) Unmoved) (To x)
+    → goalIn (movesOf s) rows late c x ≡ pickGoal (eqb c LATE-RODATA) (pickGoal (s .runs) (lateGoal (offsetAt late (s .blocks) x)) Unmoved) (To x)
 unfolding goalIn
 goal-assembled s rows late c x n = rw n
 
@@ -98,13 +98,13 @@ module _ (C A : List ℕ) (P : List Place) (B : List ℕ) (s : Side) (rows late 
       let g : hasLateStep P B ≡ false = sym (h .there) ∙ f in
       ap (λ (b : Bool). b && jumpAt late (s .blocks) x) f ∙ sym (ap (λ (b : Bool). b && isJumpWord o P B R x) g))
 
-  pub gone-is : (c x : ℕ) → isGoneIn s rows late c x ≡ isGone o C A P B c x
+  pub gone-is : (c x : ℕ) → isGoneIn (movesOf s) rows late c x ≡ isGone o C A P B c x
   unfolding isGoneIn isGone
   gone-is c x =
       ap (λ (b : Bool). b || (isLateTarget c && (s .runs && jumpAt late (s .blocks) x))) (replaced-is c x)
       ∙ ap (λ (b : Bool). (leavesOut c && replacedWord (spansOf P B c) x) || (isLateTarget c && b)) (jump-is x)
 
-  pub goal-c : s .compiled ≡ true → (c x : ℕ) → goalIn s rows late c x ≡ goalC o C A P B c x
+  pub goal-c : s .compiled ≡ true → (c x : ℕ) → goalIn (movesOf s) rows late c x ≡ goalC o C A P B c x
   unfolding goalC
   goal-c y c x = goal-compiled s rows late c x y ∙ ap (λ (b : Bool). pickGoal b LeftOut (To x)) (gone-is c x)
 
@@ -124,7 +124,7 @@ module _ (C A : List ℕ) (P : List Place) (B : List ℕ) (s : Side) (rows late 
       ap (λ (b : Bool). pickGoal b (lateGoal (offsetAt late (s .blocks) x)) Unmoved) f
       ∙ sym (ap (λ (b : Bool). pickGoal (b && isMoved P B (lateStart o A) x) (To (movedPlace o P B R (lateStart o A) x)) Unmoved) g))
 
-  pub goal-a : s .compiled ≡ false → (c x : ℕ) → goalIn s rows late c x ≡ goalA o C A P B c x
+  pub goal-a : s .compiled ≡ false → (c x : ℕ) → goalIn (movesOf s) rows late c x ≡ goalA o C A P B c x
   unfolding goalA
   goal-a n c x = goal-assembled s rows late c x n ∙ ap (λ (g : Goal). pickGoal (eqb c LATE-RODATA) g (To x)) (late-is x)
 
@@ -148,13 +148,13 @@ module _ (o : ByteOrder) (C A : List ℕ) (P : List Place) (B : List ℕ) (mode 
 
   -- numbers are below 2 ^ 24
   module _ (N : List ℕ) (w : NumbersOf all N) (few : all .many ≤ ID_LIMIT) where
-    word-small : (i : ℕ) → i < all .many → wordIn N i < 2 ^ 24
+    word-small : (i : ℕ) → i < all .many → halfIn N i < 2 ^ 24
     word-small i u = by-test (all .taken i)
         (λ t.
-        let e : wordIn N i ≡ numberOf all i = w .is i u ∙ rw t in
+        let e : halfIn N i ≡ numberOf all i = w .is i u ∙ rw t in
         omega (arith, e, number-few all i (u, t), few))
         (λ f.
-        let e : wordIn N i ≡ 0 = w .is i u ∙ rw f in
+        let e : halfIn N i ≡ 0 = w .is i u ∙ rw f in
         omega (arith, e))
 
     pub numbers-read : (s : Side) → (s .compiled ≡ true → s .first ≡ 0) → s .first + s .view .symbols .count ≤ all .many → SymbolsRead s N

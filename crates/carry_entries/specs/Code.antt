@@ -1,5 +1,5 @@
 -- Of the code, not of document 01: what is in hand to carry the entries of an object, C or A. Its sections are read by its view, C's spans of .text in a table of rows, the
--- late step in its table, and the numbers of its symbols in a word for each id. proofs/InHand.antt says what each is of C, A, P and B.
+-- late step in its table, and the numbers of its symbols in two bytes for each id. proofs/InHand.antt says what each is of C, A, P and B.
 use Prim.Native.Nat.{ℕ, _+_, _*_, _^_, _≤_, _<_}
 use mathlib.Core.Path.{_≡_}
 use mathlib.Core.Bool.{Bool, true, false, not, _&&_, _||_}
@@ -22,13 +22,14 @@ use Rattle.late_lookups.specs.declared.LatePlace.the-variants.{Moved, Unmoved a
 use Rattle.late_lookups.specs.Fields.{offsetAt, jumpAt}
 use Rattle.symbols_taken.specs.Used.{codeOf}
 use Rattle.symbols_taken.specs.Code.{LateIn}
-use Rattle.symbols_rows.specs.Rows.{wordIn}
+use Rattle.symbols_rows.specs.Rows.{halfIn}
 use Rattle.symbols_numbers.specs.declared.NewSymbol.{NewSymbol}
 use Rattle.symbols_numbers.specs.Numbers.{newIn}
 use Rattle.carry_clash.specs.Clash.{isCarried}
 use Rattle.carry_entries.specs.declared.Goal.{Goal}
 use Rattle.carry_entries.specs.declared.Goal.the-variants.{To, LeftOut, Unmoved}
 use Rattle.carry_entries.specs.declared.Side.{Side}
+use Rattle.carry_entries.specs.declared.Moves.{Moves}
 use Rattle.carry_entries.specs.declared.EntryTable.{EntryTable}
 use Rattle.carry_entries.specs.declared.Gap.{Gap}
 use Rattle.carry_entries.specs.Entries.{Carrying, isLeftOut, isStuck, goalPlace, isInResult, newNumber, isKept, carriedEntry}
@@ -44,7 +45,11 @@ abbrev pub pickTables : Bool → (ℕ → Bool) → (ℕ → Bool) → ℕ → B
 pickTables true a b = a
 pickTables false a b = b
 
-module _ (s : Side) (rows late : List ℕ) where
+-- what of an object says where its entries go
+abbrev pub movesOf : Side → Moves
+movesOf s = record { compiled = s .compiled; spans = s .spans; runs = s .runs; blocks = s .blocks }
+
+module _ (s : Moves) (rows late : List ℕ) where
   -- the word at x of C's section of code c is written anew
   unfoldable pub isGoneIn : ℕ → ℕ → Bool
   isGoneIn c x =
@@ -62,7 +67,7 @@ module _ (s : Side) (rows late : List ℕ) where
 unfoldable pub carryingIn : List ℕ → Side → List ℕ → List ℕ → List ℕ → Carrying
 carryingIn F s rows late N = record {
   tables = pickTables (s .compiled) (isTable (s .order) F) (isCarried (s .order) F);
-  goal = goalIn s rows late;
+  goal = goalIn (movesOf s) rows late;
   new = newIn N (s .first) (s .view .symbols .count);
 }
 
@@ -70,7 +75,7 @@ carryingIn F s rows late N = record {
 
 -- it is not left out
 unfoldable pub isKeptEntry : Side → List ℕ → List ℕ → ℕ → RelocationEntry → Bool
-isKeptEntry s rows late c e = not (isLeftOut (goalIn s rows late c (e .«r_offset»)))
+isKeptEntry s rows late c e = not (isLeftOut (goalIn (movesOf s) rows late c (e .«r_offset»)))
 
 -- what its symbol becomes
 unfoldable pub symbolIn : Side → List ℕ → ℕ → NewSymbol
@@ -79,7 +84,7 @@ symbolIn s N info = newIn N (s .first) (s .view .symbols .count) (symbolOf info)
 -- it is at fault by 20
 unfoldable pub isLostEntry : Side → List ℕ → List ℕ → List ℕ → ℕ → RelocationEntry → Bool
 isLostEntry s rows late N c e =
-    isKeptEntry s rows late c e && (isStuck (goalIn s rows late c (e .«r_offset»)) || not (isInResult (symbolIn s N (e .«r_info»))))
+    isKeptEntry s rows late c e && (isStuck (goalIn (movesOf s) rows late c (e .«r_offset»)) || not (isInResult (symbolIn s N (e .«r_info»))))
 
 -- the entry of the result, of one that goes to g
 unfoldable pub carriedTo : Side → List ℕ → Goal → RelocationEntry → RelocationEntry
@@ -135,8 +140,8 @@ pub record GoalsRead (F : List ℕ) (s : Side) (rows late : List ℕ) : Type 0 w
 -- what symbols become can be read
 pub record SymbolsRead (s : Side) (N : List ℕ) : Type 0 where
   pub start : s .compiled ≡ true → s .first ≡ 0
-  pub long : 4 * (s .first + s .view .symbols .count) ≤ length N
-  pub few : (i : ℕ) → i < s .first + s .view .symbols .count → wordIn N i < 2 ^ 24
+  pub long : 2 * (s .first + s .view .symbols .count) ≤ length N
+  pub few : (i : ℕ) → i < s .first + s .view .symbols .count → halfIn N i < 2 ^ 24
 
 -- both
 pub record EntriesRead (F : List ℕ) (s : Side) (rows late N : List ℕ) : Type 0 where

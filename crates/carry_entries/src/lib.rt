@@ -2,24 +2,26 @@
 // proofs/InHand.antt says what that is of C, A and the block file. Document 01, "Carrying".
 ghost use mathlib.Core.Path.{_≡_};
 ghost use mathlib.Core.Bool.{true, cond, _&&_};
-ghost use Prim.Native.Nat.{_+_, _≤_, _<_, min};
+ghost use Prim.Native.Nat.{_+_, _-_, _*_, _≤_, _<_, min};
 ghost use lib.ListN.{length};
 ghost use lib.Dec.{leb, ltb};
+ghost use Rattle.base_lists.specs.Ranges.{first};
 ghost use Rattle.base_lists.specs.Windows.{spliced};
 ghost use Rattle.base_packed.specs.Packed.{kindOf, relocationInfo};
 ghost use Rattle.base_scope.specs.Codes.{leavesOut, isLateTarget};
+ghost use Rattle.base_scope.specs.Limits.{BLOCK_LIMIT, SPAN_ROW};
 ghost use Rattle.base_fields.specs.Layouts.{widthOf};
 ghost use Rattle.elf_records.specs.Relocation.{relocationLayout};
 ghost use Rattle.elf_readers.specs.Readers.{sectionCount};
 ghost use Rattle.elf_readers.specs.Bounds.{Headed};
 ghost use Rattle.elf_relocations.specs.Relocations.{isTable, relocationCount, relocation};
 ghost use Rattle.elf_check.specs.View.{Viewed};
-ghost use Rattle.blocks_spans.specs.Spans.{replacedWord};
-ghost use Rattle.blocks_spans.specs.Table.{spansIn, Rows};
+ghost use Rattle.blocks_spans.specs.Spans.{spanEnd, replacedWord};
+ghost use Rattle.blocks_spans.specs.Table.{spanIn, spansIn, Rows, endsBehind};
 ghost use Rattle.late_lookups.specs.Fields.{offsetAt, jumpAt};
 ghost use Rattle.symbols_taken.specs.Code.{LateIn};
 ghost use Rattle.carry_clash.specs.Clash.{isCarried};
-ghost use Rattle.carry_entries.specs.declared.Goal.the-variants.{Unmoved};
+ghost use Rattle.carry_entries.specs.declared.Goal.the-variants.{To, Unmoved};
 ghost use Rattle.carry_entries.specs.Entries.{isLeftOut, isStuck, goalPlace, isInResult, newNumber, OFFSETS, carriedBytes, isLost, lossIn, lossFinding};
 ghost use Rattle.carry_entries.specs.Carried.{pickGoal};
 ghost use Rattle.carry_entries.specs.Code.{lateGoal, pickTables, isGoneIn, goalIn, carryingIn, isKeptIn, keepsAll, symbolIn, isLostEntry, carriedTo};
@@ -27,7 +29,6 @@ ghost use Rattle.carry_entries.specs.Code.{keptIn, broughtBytes, entryTa
 use base_fields::ByteOrder;
 use base_packed::MergedSymbol;
 use base_scope::Finding;
-use blocks_spans::NextSpan;
 use elf_check::View;
 use elf_records::RelocationEntry;
 use late_lookups::LatePlace;
@@ -55,6 +56,14 @@ pub struct Side {
     pub first: usize,
 }
 
+// What of it says where entries go: whether it is C, how many spans .text has, and the late step.
+struct Moves {
+    pub compiled: bool,
+    pub spans: usize,
+    pub runs: bool,
+    pub blocks: usize,
+}
+
 // A relocation table: its section, the code of the section that it relocates, where its entries start in the file, whether they have addends, and the bytes of an entry.
 struct EntryTable {
     pub index: usize,
@@ -64,10 +73,11 @@ struct EntryTable {
     pub size: usize,
 }
 
-// Offsets from `low` up to `high`, none of which starts a replaced word. Entries mostly ascend, so the gap of one often tells of the next.
+// Offsets from `low` up to `high`, none of which starts a replaced word, and the row of the span behind them. Entries mostly ascend, so the gap of one often tells of the next.
 struct Gap {
     pub low: usize,
     pub high: usize,
+    pub row: usize,
 }
 
 // Whether offset x is in a gap.
@@ -81,49 +91,131 @@ fn is_in_gap(gap: Gap, x: usize) -> bool
 fn no_gap() -> Gap
     ensures { λ r. ⌜ r .high ≡ 0 ⌝ }
 {
-    Gap { low: 0, high: 0 }
-}
-
-// The gap from offset x on: up to the next span, and empty where one covers x.
-fn gap_from(rows: &[u8], n: usize, x: usize) -> Gap
-    requires { ⌜ Rows (now rows) n ⌝ }
-    ensures { λ r. ⌜ IsGap (now (rows .entry)) n r ⌝ }
-{
-    match blocks_spans::next_span(rows, n, x) {
-        NextSpan::NoSpan => Gap {
-            low: x,
-            high: OFFSETS,
-        },
-        NextSpan::Next(s) => Gap {
-            low: x,
-            high: s.place,
-        },
+    Gap {
+        low: 0,
+        high: 0,
+        row: 0,
     }
 }
 
+// Where the span of row r ends.
+fn row_end(rows: &[u8], r: usize) -> usize
+    requires { ⌜ (SPAN_ROW * r + SPAN_ROW ≤ length (now rows)) × (r < BLOCK_LIMIT) ⌝ }
+    ensures { λ e. ⌜ e ≡ spanEnd (spanIn (now (rows .entry)) r) ⌝ }
+{
+    let s = blocks_spans::span_at(rows, r);
+    s.place + s.size
+}
+
+// Where the span of the row before row r ends: 0 where there is none.
+fn end_before(rows: &[u8], r: usize) -> usize
+    requires { ⌜ (SPAN_ROW * r ≤ length (now rows)) × (r ≤ BLOCK_LIMIT) ⌝ }
+    ensures { λ e. ⌜ e ≡ cond (ltb 0 r) (spanEnd (spanIn (now (rows .entry)) (r - 1))) 0 ⌝ }
+{
+    if 0 < r {
+        return row_end(rows, r - 1);
+    }
+    0
+}
+
+// The place of the span of row r of n rows: behind all offsets where there is none.
+fn place_of(rows: &[u8], n: usize, r: usize) -> usize
+    requires { ⌜ Rows (now rows) n ⌝ }
+    ensures { λ p. ⌜ p ≡ cond (ltb r n) (spanIn (now (rows .entry)) r .place) OFFSETS ⌝ }
+{
+    if r < n {
+        let s = blocks_spans::span_at(rows, r);
+        return s.place;
+    }
+    OFFSETS
+}
+
+// The gap before the span of row r of n rows, and behind the last span where r is n.
+fn gap_before(rows: &[u8], n: usize, r: usize) -> Gap
+    requires { ⌜ Rows (now rows) n × (r ≤ n) ⌝ }
+    ensures { λ g. ⌜ IsGap (now (rows .entry)) n g ⌝ }
+{
+    Gap {
+        low: end_before(rows, r),
+        high: place_of(rows, n, r),
+        row: r,
+    }
+}
+
+// The first of n rows whose span ends behind offset x, or n: a binary search.
+fn row_behind(rows: &[u8], n: usize, x: usize) -> usize
+    requires { ⌜ Rows (now rows) n ⌝ }
+    ensures { λ r. ⌜ r ≡ first (endsBehind (spansIn (now (rows .entry)) n) x) 0 n ⌝ }
+{
+    let mut low: usize = 0;
+    let mut high = n;
+    while low < high {
+        let mid = low + (high - low) / 2;
+        if x < row_end(rows, mid) {
+            high = mid;
+        } else {
+            low = mid + 1;
+        }
+    }
+    low
+}
+
+// A gap for offset x, which `gap` does not hold: the next one, or `gap` itself where the span between the two covers x; else the last one that starts at x or before.
+fn gap_beside(rows: &[u8], n: usize, x: usize, gap: Gap) -> Gap
+    requires { ⌜ Rows (now rows) n × IsGap (now rows) n gap ⌝ }
+    ensures { λ r. ⌜ IsGap (now (rows .entry)) n r ⌝ }
+{
+    if gap.row < n {
+        let next = gap_before(rows, n, gap.row + 1);
+        if is_in_gap(next, x) {
+            return next;
+        }
+        if base_scope::both(gap.high <= x, x < next.low) {
+            return gap;
+        }
+    }
+    gap_before(rows, n, row_behind(rows, n, x))
+}
+
+// Whether offset x is the start of a replaced word: the span of row r is asked first, then all of them.
+fn is_word(rows: &[u8], n: usize, r: usize, x: usize) -> bool
+    requires { ⌜ Rows (now rows) n ⌝ }
+    ensures { λ b. ⌜ b ≡ replacedWord (spansIn (now (rows .entry)) n) x ⌝ }
+{
+    if r < n {
+        let s = blocks_spans::span_at(rows, r);
+        if s.place <= x {
+            if x - s.place < s.size {
+                return (x - s.place) % 4 == 0;
+            }
+        }
+    }
+    blocks_spans::is_replaced(rows, n, x)
+}
+
 // Whether a word starts at offset x of the section of a code that a block's copy replaces; entries for it are left out.
-fn is_replaced(side: Side, rows: &[u8], code: u32, x: u32, gap: Gap) -> bool
-    requires { ⌜ Rows (now rows) (side .spans) × IsGap (now rows) (side .spans) gap ⌝ }
-    ensures { λ r. ⌜ r ≡ (leavesOut code && replacedWord (spansIn (now (rows .entry)) (side .spans)) x) ⌝ }
+fn is_replaced(moves: Moves, rows: &[u8], code: u32, x: u32, gap: Gap) -> bool
+    requires { ⌜ Rows (now rows) (moves .spans) × IsGap (now rows) (moves .spans) gap ⌝ }
+    ensures { λ r. ⌜ r ≡ (leavesOut code && replacedWord (spansIn (now (rows .entry)) (moves .spans)) x) ⌝ }
 {
     if base_scope::leaves_out(code) {
         if is_in_gap(gap, x as usize) {
             return false;
         }
-        let n = side.spans;
-        return blocks_spans::is_replaced(rows, n, x as usize);
+        let n = moves.spans;
+        return is_word(rows, n, gap.row, x as usize);
     }
     false
 }
 
 // Whether a word of a jump table is at offset x of the section of a code.
-fn is_jump(side: Side, late: &[u8], code: u32, x: u32) -> bool
-    requires { ⌜ LateIn (side .runs) (now late) (side .blocks) ⌝ }
-    ensures { λ r. ⌜ r ≡ (isLateTarget code && (side .runs && jumpAt (now (late .entry)) (side .blocks) x)) ⌝ }
+fn is_jump(moves: Moves, late: &[u8], code: u32, x: u32) -> bool
+    requires { ⌜ LateIn (moves .runs) (now late) (moves .blocks) ⌝ }
+    ensures { λ r. ⌜ r ≡ (isLateTarget code && (moves .runs && jumpAt (now (late .entry)) (moves .blocks) x)) ⌝ }
 {
     if base_scope::is_late_target(code) {
-        if side.runs {
-            let n = side.blocks;
+        if moves.runs {
+            let n = moves.blocks;
             return late_lookups::jump_at(late, n, x);
         }
         return false;
@@ -132,14 +224,14 @@ fn is_jump(side: Side, late: &[u8], code: u32, x: u32) -> bool
 }
 
 // Whether the word at offset x of C's section of a code is written anew.
-fn is_gone(side: Side, rows: &[u8], late: &[u8], code: u32, x: u32, gap: Gap) -> bool
-    requires { ⌜ Rows (now rows) (side .spans) × LateIn (side .runs) (now late) (side .blocks) × IsGap (now rows) (side .spans) gap ⌝ }
-    ensures { λ r. ⌜ r ≡ isGoneIn side (now (rows .entry)) (now (late .entry)) code x ⌝ }
+fn is_gone(moves: Moves, rows: &[u8], late: &[u8], code: u32, x: u32, gap: Gap) -> bool
+    requires { ⌜ Rows (now rows) (moves .spans) × LateIn (moves .runs) (now late) (moves .blocks) × IsGap (now rows) (moves .spans) gap ⌝ }
+    ensures { λ r. ⌜ r ≡ isGoneIn moves (now (rows .entry)) (now (late .entry)) code x ⌝ }
 {
-    if is_replaced(side, rows, code, x, gap) {
+    if is_replaced(moves, rows, code, x, gap) {
         return true;
     }
-    is_jump(side, late, code, x)
+    is_jump(moves, late, code, x)
 }
 
 // Where a late offset goes, by the table of `blocks` blocks: nowhere if the late step does not run, and the table is not read then.
@@ -157,20 +249,41 @@ fn late_goal(runs: bool, late: &[u8], blocks: usize, x: u32) -> Goal
 }
 
 // Where an entry at offset x of the section of a code goes.
-fn goal_of(side: Side, rows: &[u8], late: &[u8], code: u32, x: u32, gap: Gap) -> Goal
-    requires { ⌜ Rows (now rows) (side .spans) × LateIn (side .runs) (now late) (side .blocks) × IsGap (now rows) (side .spans) gap ⌝ }
-    ensures { λ r. ⌜ r ≡ goalIn side (now (rows .entry)) (now (late .entry)) code x ⌝ }
+fn goal_of(moves: Moves, rows: &[u8], late: &[u8], code: u32, x: u32, gap: Gap) -> Goal
+    requires { ⌜ Rows (now rows) (moves .spans) × LateIn (moves .runs) (now late) (moves .blocks) × IsGap (now rows) (moves .spans) gap ⌝ }
+    ensures { λ r. ⌜ r ≡ goalIn moves (now (rows .entry)) (now (late .entry)) code x ⌝ }
 {
-    if side.compiled {
-        if is_gone(side, rows, late, code, x, gap) {
+    if moves.compiled {
+        if is_gone(moves, rows, late, code, x, gap) {
             return Goal::LeftOut;
         }
         return Goal::To(x);
     }
     if code == base_scope::LATE_RODATA {
-        return late_goal(side.runs, late, side.blocks, x);
+        return late_goal(moves.runs, late, moves.blocks, x);
     }
     Goal::To(x)
+}
+
+// Whether an entry at offset x of the section of a code surely stays: one of C's outside of late words where a gap holds it or no word is replaced, one of A's where it is
+// not late. Most entries are told by this.
+fn stays(moves: Moves, rows: &[u8], late: &[u8], code: u32, x: u32, gap: Gap) -> bool
+    requires { ⌜ IsGap (now rows) (moves .spans) gap ⌝ }
+    ensures { λ r. ⌜ (r ≡ true → To x ≡ goalIn moves (now (rows .entry)) (now (late .entry)) code x) ⌝ }
+{
+    if moves.compiled {
+        if base_scope::is_late_target(code) {
+            return false;
+        }
+        if base_scope::leaves_out(code) {
+            return is_in_gap(gap, x as usize);
+        }
+        return true;
+    }
+    if code == base_scope::LATE_RODATA {
+        return false;
+    }
+    true
 }
 
 // Whether an entry that goes there is left out.
@@ -263,7 +376,8 @@ fn carried_entry(side: Side, numbers: &[u8], goal: Goal, entry: RelocationEntry)
     }
 }
 
-// Whether an entry for the section of a code is lost: its late word is not moved, or its symbol is not in the result.
+// Whether an entry for the section of a code is lost: its late word is not moved, or its symbol is not in the result. The symbol is asked first: where it is
+// in the result, an entry of C is not lost.
 fn is_lost(
     side: Side,
     rows: &[u8],
@@ -271,19 +385,30 @@ fn is_lost(
     numbers: &[u8],
     code: u32,
     entry: RelocationEntry,
-    gap: Gap,
 ) -> bool
-    requires { ⌜ Rows (now rows) (side .spans) × LateIn (side .runs) (now late) (side .blocks) × SymbolsRead side (now numbers) × IsGap (now rows) (side .spans) gap ⌝ }
+    requires { ⌜ Rows (now rows) (side .spans) × LateIn (side .runs) (now late) (side .blocks) × SymbolsRead side (now numbers) ⌝ }
     ensures { λ r. ⌜ r ≡ isLostEntry side (now (rows .entry)) (now (late .entry)) (now (numbers .entry)) code entry ⌝ }
 {
-    let goal = goal_of(side, rows, late, code, entry.r_offset, gap);
-    if is_left_out(goal) {
-        return false;
+    let compiled = side.compiled;
+    let spans = side.spans;
+    let runs = side.runs;
+    let blocks = side.blocks;
+    let moves = Moves {
+        compiled,
+        spans,
+        runs,
+        blocks,
+    };
+    if is_in_result(symbol_of(side, numbers, entry.r_info)) {
+        if compiled {
+            return false;
+        }
+        if code != base_scope::LATE_RODATA {
+            return false;
+        }
+        return is_stuck(goal_of(moves, rows, late, code, entry.r_offset, no_gap()));
     }
-    if is_stuck(goal) {
-        return true;
-    }
-    !is_in_result(symbol_of(side, numbers, entry.r_info))
+    !is_left_out(goal_of(moves, rows, late, code, entry.r_offset, no_gap()))
 }
 
 // The bytes of an entry, with an addend or with none.
@@ -327,23 +452,33 @@ fn offset_at(file: &[u8], order: ByteOrder, table: EntryTable, k: usize) -> u32
     base_fields::read32(order, file, table.at + table.size * k)
 }
 
-// A gap for entry k of a table: `gap`, or where that does not tell of it, the one from its offset on.
-fn gap_for(file: &[u8], side: Side, rows: &[u8], table: EntryTable, k: usize, gap: Gap) -> Gap
-    requires { ⌜ Headed (side .order) (now file) × TableRead (side .order) (now file) table × (k < relocationCount (side .order) (now file) (table .index))
-        × Rows (now rows) (side .spans) × IsGap (now rows) (side .spans) gap ⌝ }
-    ensures { λ r. ⌜ IsGap (now (rows .entry)) (side .spans) r ⌝ }
+// Whether gaps tell of the entries for the section of a code: some of C's may be left out there.
+fn is_sought(side: Side, code: u32) -> bool
+    ensures { λ r. ⌜ r ≡ (side .compiled && leavesOut code) ⌝ }
 {
-    if side.compiled {
-        if base_scope::leaves_out(table.code) {
-            let order = side.order;
-            let x = offset_at(file, order, table, k) as usize;
-            if is_in_gap(gap, x) {
-                return gap;
-            }
-            let n = side.spans;
-            return gap_from(rows, n, x);
+    base_scope::both(side.compiled, base_scope::leaves_out(code))
+}
+
+// A gap for entry k of a table: `gap`, or where that does not tell of it and a gap is sought, another.
+fn gap_for(
+    sought: bool,
+    file: &[u8],
+    order: ByteOrder,
+    rows: &[u8],
+    n: usize,
+    table: EntryTable,
+    k: usize,
+    gap: Gap,
+) -> Gap
+    requires { ⌜ Headed order (now file) × TableRead order (now file) table × (k < relocationCount order (now file) (table .index)) × Rows (now rows) n × IsGap (now rows) n gap ⌝ }
+    ensures { λ r. ⌜ IsGap (now (rows .entry)) n r ⌝ }
+{
+    if sought {
+        let x = offset_at(file, order, table, k) as usize;
+        if is_in_gap(gap, x) {
+            return gap;
         }
-        return gap;
+        return gap_beside(rows, n, x, gap);
     }
     gap
 }
@@ -363,8 +498,21 @@ fn is_kept(
     ensures { λ r. ⌜ r ≡ isKeptIn (now (file .entry)) side (now (rows .entry)) (now (late .entry)) (table .index) k ⌝ }
 {
     let order = side.order;
+    let compiled = side.compiled;
+    let spans = side.spans;
+    let runs = side.runs;
+    let blocks = side.blocks;
+    let moves = Moves {
+        compiled,
+        spans,
+        runs,
+        blocks,
+    };
     let x = offset_at(file, order, table, k);
-    !is_left_out(goal_of(side, rows, late, table.code, x, gap))
+    if stays(moves, rows, late, table.code, x, gap) {
+        return true;
+    }
+    !is_left_out(goal_of(moves, rows, late, table.code, x, gap))
 }
 
 // What an entry adds to the number of those that are kept.
@@ -402,11 +550,13 @@ pub fn kept_count(file: &[u8], side: Side, rows: &[u8], late: &[u8], t: usize) -
     if keeps_all(side, table.code) {
         return n;
     }
-    let mut gap = no_gap();
+    let spans = side.spans;
+    let sought = is_sought(side, table.code);
+    let mut gap = gap_before(rows, spans, 0);
     let mut kept: usize = 0;
     let mut k: usize = 0;
     while k < n {
-        gap = gap_for(file, side, rows, table, k, gap);
+        gap = gap_for(sought, file, order, rows, spans, table, k, gap);
         kept += one_if(is_kept(file, side, rows, late, table, k, gap));
         k += 1;
     }
@@ -436,8 +586,23 @@ fn write_entry(
         (broughtBytes (side .order) (now (file .entry)) (carryingIn (now (file .entry)) side (now (rows .entry)) (now (late .entry)) (now (numbers .entry))) (table .index) k)) ⌝ }
 {
     let order = side.order;
+    let compiled = side.compiled;
+    let spans = side.spans;
+    let runs = side.runs;
+    let blocks = side.blocks;
+    let moves = Moves {
+        compiled,
+        spans,
+        runs,
+        blocks,
+    };
     let entry = entry_at(file, order, table, k);
-    let goal = goal_of(side, rows, late, table.code, entry.r_offset, gap);
+    if stays(moves, rows, late, table.code, entry.r_offset, gap) {
+        let stayed = carried_entry(side, numbers, Goal::To(entry.r_offset), entry);
+        stayed.write(order, out, at);
+        return at + table.size;
+    }
+    let goal = goal_of(moves, rows, late, table.code, entry.r_offset, gap);
     if is_left_out(goal) {
         return at;
     }
@@ -468,11 +633,13 @@ pub fn write_entries(
     let order = side.order;
     let table = table_at(file, side, t);
     let n = elf_relocations::relocation_count(order, file, t);
-    let mut gap = no_gap();
+    let spans = side.spans;
+    let sought = is_sought(side, table.code);
+    let mut gap = gap_before(rows, spans, 0);
     let mut next = at;
     let mut k: usize = 0;
     while k < n {
-        gap = gap_for(file, side, rows, table, k, gap);
+        gap = gap_for(sought, file, order, rows, spans, table, k, gap);
         next = write_entry(out, next, file, side, rows, late, numbers, table, k, gap);
         k += 1;
     }
@@ -489,10 +656,9 @@ fn lower_loss(
     table: EntryTable,
     k: usize,
     best: usize,
-    gap: Gap,
 ) -> usize
     requires { ⌜ EntriesRead (now file) side (now rows) (now late) (now numbers) × TableRead (side .order) (now file) table
-        × (k < relocationCount (side .order) (now file) (table .index)) × IsGap (now rows) (side .spans) gap ⌝ }
+        × (k < relocationCount (side .order) (now file) (table .index)) ⌝ }
     ensures { λ r. ⌜ r ≡ cond
         (isLost (side .order) (now (file .entry)) (carryingIn (now (file .entry)) side (now (rows .entry)) (now (late .entry)) (now (numbers .entry))) (table .index) k)
         (min (relocation (side .order) (now (file .entry)) (table .index) k .«r_offset») best) best ⌝ }
@@ -501,7 +667,7 @@ fn lower_loss(
     let entry = entry_at(file, order, table, k);
     let x = entry.r_offset as usize;
     if x < best {
-        if is_lost(side, rows, late, numbers, table.code, entry, gap) {
+        if is_lost(side, rows, late, numbers, table.code, entry) {
             return x;
         }
         return best;
@@ -527,12 +693,10 @@ fn loss_in(
     let order = side.order;
     let table = table_at(file, side, t);
     let n = elf_relocations::relocation_count(order, file, t);
-    let mut gap = no_gap();
     let mut lowest = best;
     let mut k: usize = 0;
     while k < n {
-        gap = gap_for(file, side, rows, table, k, gap);
-        lowest = lower_loss(file, side, rows, late, numbers, table, k, lowest, gap);
+        lowest = lower_loss(file, side, rows, late, numbers, table, k, lowest);
         k += 1;
     }
     lowest

@@ -23,7 +23,7 @@ use merge_inputs::Inputs;
 use merge_sections::Stage;
 
 // Where the tables of carrying stand; the definitions in specs/Tables.antt have the same names.
-pub const CARRY_SPANS_AT: usize = 106496;
+pub const CARRY_SPANS_AT: usize = 49152;
 
 pub const HOMES_AT: usize = 32768;
 

@@ -12,7 +12,7 @@ use Rattle.base_fields.specs.declared.ByteOrder.the-variants.{Big}
 use Rattle.base_fields.specs.Numbers.{encoded}
 use Rattle.base_scope.specs.Limits.{SYMBOL_LIMIT}
 use Rattle.base_index.specs.Index.{hashPlace, hashOf, hashIn, Built}
-use Rattle.base_index.proofs.Table.{word-long, hash-same, hash-other}
+use Rattle.base_index.proofs.Table.{number-long, hash-same, hash-other}
 use Rattle.base_index.proofs.Index.{Implies}
 use Rattle.elf_symbols.specs.Symbols.{symbolCount, symbolName, isSymbolNamed}
 use Rattle.elf_index.specs.Index.{SymbolIndex}
@@ -26,12 +26,12 @@ module _ (o : ByteOrder) (F : List ℕ) where
   pub hashed-none : (before : List ℕ) → Hashed o F 0 before before
   hashed-none before = record { long = refl; hashes = λ k h. absurd (omega arith) }
 
-  pub hashed-next : (k : ℕ) (before m after : List ℕ) → hashPlace k + 4 ≤ length before → Hashed o F k before m
-      → after ≡ spliced m (hashPlace k) (encoded Big 4 (hashOf (symbolName o F k))) → Hashed o F (k + 1) before after
+  pub hashed-next : (k : ℕ) (before m after : List ℕ) → hashPlace k + 2 ≤ length before → Hashed o F k before m
+      → after ≡ spliced m (hashPlace k) (encoded Big 2 (hashOf (symbolName o F k))) → Hashed o F (k + 1) before after
   hashed-next k before m after fits x e =
-      let f : hashPlace k + 4 ≤ length m = rw (x .long) fits in
+      let f : hashPlace k + 2 ≤ length m = rw (x .long) fits in
       rw e (record {
-        long = word-long m (hashPlace k) (hashOf (symbolName o F k)) f ∙ x .long;
+        long = number-long 2 m (hashPlace k) (hashOf (symbolName o F k)) f ∙ x .long;
         hashes = λ j h. by-lt j k
             (λ l. hash-other m k (hashOf (symbolName o F k)) f j (λ q. absurd (omega arith)) ∙ x .hashes j l)
             (λ l. let q : j ≡ k = omega arith in rw q (hash-same m k (hashOf (symbolName o F k)) f));

@@ -17,8 +17,8 @@ use elf_symbols::SymbolTable;
 
 // Puts the hash of symbol k's name.
 fn put_name(order: ByteOrder, file: &[u8], at: usize, strings: &[u8], k: usize, index: &mut [u8])
-    requires { ⌜ Entries order (now file) at (now strings) × (k < symbolCount order (now file)) × (hashPlace k + 4 ≤ length (now index)) ⌝ }
-    ensures { λ _. ⌜ now (index .exit) ≡ spliced (now (index .entry)) (hashPlace k) (encoded Big 4 (hashOf (symbolName order (now (file .entry)) k))) ⌝ }
+    requires { ⌜ Entries order (now file) at (now strings) × (k < symbolCount order (now file)) × (hashPlace k + 2 ≤ length (now index)) ⌝ }
+    ensures { λ _. ⌜ now (index .exit) ≡ spliced (now (index .entry)) (hashPlace k) (encoded Big 2 (hashOf (symbolName order (now (file .entry)) k))) ⌝ }
 {
     let name = elf_symbols::symbol_name(order, file, at, strings, k);
     base_index::put_hash(index, k, base_index::hash_of(name));

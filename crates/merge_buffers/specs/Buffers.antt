@@ -4,7 +4,7 @@ use Prim.Native.Nat.{ℕ, _+_, _≤_}
 use mathlib.Core.List.{List}
 use lib.ListN.{length}
 use Rattle.base_buffers.specs.Parts.{partAt}
-use Rattle.base_scope.specs.Limits.{BLOCK_TABLE, PLACE_TABLE, SPAN_TABLE, LATE_TABLE, STATIC_TABLE, USED_TABLE, GLABEL_TABLE, ID_TABLE, POSITION_TABLE, SYMBOL_INDEX, INDEX_TABLE}
+use Rattle.base_scope.specs.Limits.{BLOCK_TABLE, PLACE_TABLE, LATE_TABLE, STATIC_TABLE, USED_TABLE, GLABEL_TABLE, ID_TABLE, POSITION_TABLE, SYMBOL_INDEX, INDEX_TABLE}
 
 -- ---- where tables start, and how long the buffers are
 
@@ -39,15 +39,12 @@ abbrev pub STEP_BUFFER : ℕ
 STEP_BUFFER = LIST_AT + POSITION_TABLE
 
 -- the index by hash, of A's symbols, which the line-up and the glabels are read by, and then of the list; behind its last use, over it, the order of the result and the
--- numbers of the ids, then spans of a section
+-- numbers of the ids, then the spans of .text
 abbrev pub NUMBERS_AT : ℕ
 NUMBERS_AT = POSITION_TABLE
 
 abbrev pub SPANS_AT : ℕ
 SPANS_AT = NUMBERS_AT + POSITION_TABLE
-
-abbrev pub SPANS_END : ℕ
-SPANS_END = SPANS_AT + SPAN_TABLE
 
 abbrev pub INDEX_BUFFER : ℕ
 INDEX_BUFFER = INDEX_TABLE

@@ -7,22 +7,20 @@ pub const BLOCK_BUFFER: usize = 147456;
 
 pub const HOLDERS_AT: usize = 32768;
 
-pub const PLACE_BUFFER: usize = 81920;
+pub const PLACE_BUFFER: usize = 57344;
 
 pub const USED_AT: usize = 222015;
 
 pub const STATIC_AT: usize = 226111;
 
-pub const GLABELS_AT: usize = 324415;
+pub const GLABELS_AT: usize = 287551;
 
-pub const LIST_AT: usize = 340799;
+pub const LIST_AT: usize = 303935;
 
-pub const STEP_BUFFER: usize = 389951;
+pub const STEP_BUFFER: usize = 328511;
 
-pub const NUMBERS_AT: usize = 49152;
+pub const NUMBERS_AT: usize = 24576;
 
-pub const SPANS_AT: usize = 98304;
+pub const SPANS_AT: usize = 49152;
 
-pub const SPANS_END: usize = 106496;
-
-pub const INDEX_BUFFER: usize = 114688;
+pub const INDEX_BUFFER: usize = 57344;

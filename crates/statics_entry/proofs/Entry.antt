@@ -2,7 +2,7 @@
 use mathlib.Core.Path.{_≡_, refl, sym, ap, _∙_}
 use mathlib.Core.Bool.{Bool, true, false, not, _&&_}
 use mathlib.Core.List.{List, [], _∷_, _++_}
-use Prim.Native.Nat.{ℕ, _+_, _≤_, _<_}
+use Prim.Native.Nat.{ℕ, _+_, _*_, _≤_, _<_}
 use native.Mathlib.Omega.{arith}
 use lib.ListN.{length}
 use lib.Dec.{ltb, leb}
@@ -14,7 +14,7 @@ use Rattle.base_lists.specs.Strings.{hasEnd, nameEnd, nameAt}
 use Rattle.base_lists.proofs.Strings.{name-length, end-low}
 use Rattle.base_fields.specs.declared.ByteOrder.{ByteOrder}
 use Rattle.base_fields.specs.Numbers.{number}
-use Rattle.base_scope.specs.Limits.{STATIC_LIMIT, STATIC_NAME_LIMIT}
+use Rattle.base_scope.specs.Limits.{FILE_LIMIT, STATIC_LIMIT, STATIC_NAME_LIMIT, WRITTEN_LIMIT}
 use Rattle.elf_readers.specs.Readers.{sectionCount}
 use Rattle.elf_check.specs.declared.View.{View}
 use Rattle.elf_check.specs.View.{viewOf, sectionIn}
@@ -25,7 +25,7 @@ use Rattle.statics_debug.proofs.Entries.{code-high}
 use Rattle.statics_table.specs.declared.Static.{Static}
 use Rattle.statics_table.specs.declared.Tally.{Tally}
 use Rattle.statics_table.specs.Statics.{storedName, namesakes}
-use Rattle.statics_table.specs.Table.{staticRows, staticIn, staticsIn, StaticTable}
+use Rattle.statics_table.specs.Table.{RowFits, staticRows, staticIn, staticsIn, StaticTable}
 use Rattle.statics_table.proofs.Statics.{namesakes-same}
 use Rattle.statics_table.proofs.Table.{length-statics, statics-at, statics-added, row-added, row-room, table-next}
 use Rattle.statics_entry.specs.declared.EntryEnd.{EntryEnd}
@@ -118,6 +118,24 @@ module _ (C T : List ℕ) (n : ℕ) (name : List ℕ) where
   unfolding countOf
   count-told true h = rw sakes
   count-told false h = absurd (omega arith)
+
+-- ---- rows
+
+-- the static of an entry fits a row: its name lies inside C, and fewer than 4,096 names are written before its own
+pub static-fits : (C : List ℕ) (L : List Static) (e : Entry) (start : ℕ) (nested : Bool) (size : ℕ) (x : Static) → x ≡ staticFrom C L e start nested size
+    → readableName C start ≡ true → length C ≤ FILE_LIMIT → x .length ≤ STATIC_NAME_LIMIT → x .number ≤ STATIC_LIMIT → size ≤ WRITTEN_LIMIT * STATIC_LIMIT → RowFits x
+unfolding staticFrom
+static-fits C L e start nested size x is readable small short few low =
+    let c : x .code ≡ storageCode (storageClass (e .bits)) = ap (λ (s : Static). s .code) is in
+    let b : x .start ≡ start = ap (λ (s : Static). s .start) is in
+    let o : x .offset ≡ size = ap (λ (s : Static). s .offset) is in
+    record {
+      code = omega (arith, c, code-high (storageClass (e .bits)));
+      start = omega (arith, b, readable-parts C start readable .0, small);
+      length = omega (arith, short);
+      number = omega (arith, few);
+      offset = omega (arith, o, low);
+    }
 
 -- ---- the ends of an entry
 

@@ -14,7 +14,9 @@ use Rattle.base_lists.specs.Records.{flat}
 use Rattle.base_lists.proofs.Records.{flat-append, flat-one, flat-none, length-flat, within-flat}
 use Rattle.base_fields.specs.declared.ByteOrder.the-variants.{Big}
 use Rattle.base_fields.specs.Numbers.{number, encoded}
-use Rattle.base_fields.proofs.Numbers.{length-encoded, within-number}
+use Rattle.base_fields.specs.Layouts.{widthOf, fieldsFrom, fieldsAt, recordBytes}
+use Rattle.base_fields.proofs.Numbers.{encoded-byte}
+use Rattle.base_fields.proofs.Layouts.{length-record, within-fields, record-one, field-then}
 use Rattle.base_scope.specs.Limits.{STATIC_LIMIT, WRITTEN_LIMIT, STATIC_ROW, STATIC_TABLE}
 use Rattle.statics_table.specs.declared.Static.{Static}
 use Rattle.statics_table.specs.declared.Tally.{Tally}
@@ -24,12 +26,15 @@ use Rattle.statics_table.proofs.Statics.{names-none, names-one, numbere
 
 -- ---- staticRows
 
-abbrev word : Static → List ℕ
-word s = s .value ∷ s .code ∷ s .start ∷ s .length ∷ s .number ∷ s .offset ∷ []
+abbrev widths : List ℕ
+widths = 4 ∷ 1 ∷ 3 ∷ 2 ∷ 2 ∷ 3 ∷ []
+
+abbrev fields : Static → List ℕ
+fields s = s .value ∷ s .code ∷ s .start ∷ s .length ∷ s .number ∷ s .offset ∷ []
 
 pub length-row : (s : Static) → length (staticRow s) ≡ STATIC_ROW
-unfolding staticRow
-length-row s = length-flat (encoded Big 4) 4 (length-encoded Big 4) (word s)
+unfolding staticRow widthOf
+length-row s = length-record Big widths (fields s) refl
 
 pub rows-none : staticRows [] ≡ []
 unfolding staticRows
@@ -43,18 +48,38 @@ pub length-rows : (l : List Static) → length (staticRows l) ≡ STATIC_ROW * l
 unfolding staticRows
 length-rows l = length-flat staticRow STATIC_ROW length-row l
 
-within-word : (s : Static) (k : ℕ) → k < 6 → Within (encoded Big 4 (getD (word s) k 0)) (4 * k) (staticRow s)
-unfolding staticRow
-within-word s k h = within-flat (encoded Big 4) 4 (length-encoded Big 4) (word s) k 0 h
-
 -- where a row's bytes stand, the row is read
 pub row-read : (s : Static) (T : List ℕ) (k : ℕ) → Within (staticRow s) (STATIC_ROW * k) T → staticIn T k ≡ s
-unfolding staticIn
+unfolding staticRow staticIn fieldsFrom
 row-read s T k w =
-    let f : (j : ℕ) → j < 6 → number Big 4 T (STATIC_ROW * k + 4 * j) ≡ getD (word s) j 0 =
-    λ j h. within-number Big 3 (getD (word s) j 0) (STATIC_ROW * k + 4 * j) T (within-within _ _ T (STATIC_ROW * k) (4 * j) (within-word s j h) w) in
-    let a : number Big 4 T (STATIC_ROW * k) ≡ s .value = ap (number Big 4 T) (sym (add-zero (STATIC_ROW * k))) ∙ f 0 (omega arith) in
-    rw (a, f 1 (omega arith), f 2 (omega arith), f 3 (omega arith), f 4 (omega arith), f 5 (omega arith))
+    let e : fieldsAt Big widths T (STATIC_ROW * k) ≡ fields s = within-fields Big widths (fields s) T (STATIC_ROW * k) refl refl w in
+    let f : (j : ℕ) → getD (fieldsAt Big widths T (STATIC_ROW * k)) j 0 ≡ getD (fields s) j 0 = λ j. ap (λ (v : List ℕ). getD v j 0) e in
+    let a : number Big 4 T (STATIC_ROW * k) ≡ s .value = ap (number Big 4 T) (sym (add-zero (STATIC_ROW * k))) ∙ f 0 in
+    λ i. record { value = a i; code = f 1 i; start = f 2 i; length = f 3 i; number = f 4 i; offset = f 5 i }
+
+-- the six fields, each written right behind those before it
+pub row-written : (s : Static) (l : List ℕ) (o : ℕ) (a b c d e f : List ℕ) → o + STATIC_ROW ≤ length l
+    → a ≡ spliced l o (encoded Big 4 (s .value))
+    → b ≡ spliced a (o + 4) (s .code ∷ [])
+    → c ≡ spliced b (o + 5) (encoded Big 3 (s .start))
+    → d ≡ spliced c (o + 8) (encoded Big 2 (s .length))
+    → e ≡ spliced d (o + 10) (encoded Big 2 (s .number))
+    → f ≡ spliced e (o + 12) (encoded Big 3 (s .offset))
+    → f ≡ spliced l o (staticRow s)
+unfolding staticRow widthOf
+row-written s l o a b c d e f h p q r t u v =
+    let byte : spliced a (o + 4) (s .code ∷ []) ≡ spliced a (o + 4) (encoded Big 1 (s .code)) = ap (spliced a (o + 4)) (sym (encoded-byte Big (s .code))) in
+    let m = s .value in
+    let n = s .code in
+    let i = s .start in
+    let j = s .length in
+    let k = s .number in
+    let a′ : a ≡ spliced l o (recordBytes Big (4 ∷ []) (m ∷ [])) = p ∙ ap (spliced l o) (record-one Big 4 m) in
+    let b′ = field-then Big l o (4 ∷ []) (m ∷ []) 1 n a b (o + 4) refl refl (omega arith) a′ (q ∙ byte) in
+    let c′ = field-then Big l o (4 ∷ 1 ∷ []) (m ∷ n ∷ []) 3 i b c (o + 5) refl refl (omega arith) b′ r in
+    let d′ = field-then Big l o (4 ∷ 1 ∷ 3 ∷ []) (m ∷ n ∷ i ∷ []) 2 j c d (o + 8) refl refl (omega arith) c′ t in
+    let e′ = field-then Big l o (4 ∷ 1 ∷ 3 ∷ 2 ∷ []) (m ∷ n ∷ i ∷ j ∷ []) 2 k d e (o + 10) refl refl (omega arith) d′ u in
+    field-then Big l o (4 ∷ 1 ∷ 3 ∷ 2 ∷ 2 ∷ []) (m ∷ n ∷ i ∷ j ∷ k ∷ []) 3 (s .offset) e f (o + 12) refl refl (omega arith) e′ v
 
 pub none : Static
 none = record { value = 0; code = 0; start = 0; length = 0; number = 0; offset = 0 }

@@ -1,5 +1,5 @@
--- Of the code, not of document 01: the table of statics, a row of six words for each, and what is asked of a table in hand.
-use Prim.Native.Nat.{ℕ, _+_, _*_, _≤_, _<_}
+-- Of the code, not of document 01: the table of statics, a row of 15 bytes for each, and what is asked of a table in hand.
+use Prim.Native.Nat.{ℕ, _+_, _*_, _^_, _≤_, _<_}
 use mathlib.Core.Bool.{true}
 use mathlib.Core.List.{List, [], _∷_}
 use mathlib.Core.Path.{_≡_}
@@ -8,14 +8,24 @@ use Rattle.base_lists.specs.Ranges.{select}
 use Rattle.base_lists.specs.Records.{flat}
 use Rattle.base_lists.specs.Windows.{Within}
 use Rattle.base_fields.specs.declared.ByteOrder.the-variants.{Big}
-use Rattle.base_fields.specs.Numbers.{number, encoded}
+use Rattle.base_fields.specs.Numbers.{number}
+use Rattle.base_fields.specs.Layouts.{recordBytes}
 use Rattle.base_scope.specs.Limits.{STATIC_LIMIT, WRITTEN_LIMIT, STATIC_ROW, STATIC_TABLE}
 use Rattle.statics_table.specs.declared.Static.{Static}
 use Rattle.statics_table.specs.declared.Tally.{Tally}
 use Rattle.statics_table.specs.Statics.{storedName, namesLength, namesakes}
 
+-- a row: four bytes for the value, one for the code, three for the start, two for the length, two for the count, three for the offset
 unfoldable pub staticRow : Static → List ℕ
-staticRow s = flat (encoded Big 4) (s .value ∷ s .code ∷ s .start ∷ s .length ∷ s .number ∷ s .offset ∷ [])
+staticRow s = recordBytes Big (4 ∷ 1 ∷ 3 ∷ 2 ∷ 2 ∷ 3 ∷ []) (s .value ∷ s .code ∷ s .start ∷ s .length ∷ s .number ∷ s .offset ∷ [])
+
+-- a static's fields fit these bytes; its value always does
+pub record RowFits (s : Static) : Type 0 where
+  pub code : s .code < 2 ^ 8
+  pub start : s .start < 2 ^ 24
+  pub length : s .length < 2 ^ 16
+  pub number : s .number < 2 ^ 16
+  pub offset : s .offset < 2 ^ 24
 
 unfoldable pub staticRows : List Static → List ℕ
 staticRows l = flat staticRow l
@@ -24,11 +34,11 @@ staticRows l = flat staticRow l
 unfoldable pub staticIn : List ℕ → ℕ → Static
 staticIn T k = record {
   value = number Big 4 T (STATIC_ROW * k);
-  code = number Big 4 T (STATIC_ROW * k + 4);
-  start = number Big 4 T (STATIC_ROW * k + 8);
-  length = number Big 4 T (STATIC_ROW * k + 12);
-  number = number Big 4 T (STATIC_ROW * k + 16);
-  offset = number Big 4 T (STATIC_ROW * k + 20);
+  code = number Big 1 T (STATIC_ROW * k + 4);
+  start = number Big 3 T (STATIC_ROW * k + 5);
+  length = number Big 2 T (STATIC_ROW * k + 8);
+  number = number Big 2 T (STATIC_ROW * k + 10);
+  offset = number Big 3 T (STATIC_ROW * k + 12);
 }
 
 -- its first n rows

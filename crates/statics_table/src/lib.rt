@@ -6,7 +6,7 @@ ghost use Rattle.base_lists.specs.Ranges.{pastLast};
 ghost use Rattle.base_lists.specs.Windows.{spliced};
 ghost use Rattle.base_scope.specs.Limits.{STATIC_LIMIT, STATIC_NAME_LIMIT, HEAD_LIMIT, WRITTEN_LIMIT, STATIC_ROW};
 ghost use Rattle.statics_table.specs.Statics.{countTail, writtenLength, isNamesake, namesakes};
-ghost use Rattle.statics_table.specs.Table.{staticRow, staticIn, CountedRows};
+ghost use Rattle.statics_table.specs.Table.{RowFits, staticRow, staticIn, CountedRows};
 use base_fields::ByteOrder;
 
 // The statics modes of document 01 that are told apart: No, Local, GlobalWithFilename.
@@ -30,18 +30,17 @@ pub struct Static {
 impl Static {
     // Writes row n.
     pub fn write(self, table: &mut [u8], n: usize)
-        requires { ⌜ (STATIC_ROW * n + STATIC_ROW ≤ length (now table)) × (n < STATIC_LIMIT) ⌝ }
+        requires { ⌜ (STATIC_ROW * n + STATIC_ROW ≤ length (now table)) × (n < STATIC_LIMIT) × RowFits self ⌝ }
         ensures { λ _. ⌜ now (table .exit) ≡ spliced (now (table .entry)) (STATIC_ROW * n) (staticRow self) ⌝ }
     {
-        let row = [
-            self.value,
-            self.code,
-            self.start,
-            self.length,
-            self.number,
-            self.offset,
-        ];
-        base_fields::write_words(ByteOrder::Big, table, base_scope::STATIC_ROW * n, &row);
+        let at = base_scope::STATIC_ROW * n;
+        let code = self.code as u8;
+        base_fields::write32(ByteOrder::Big, table, at, self.value);
+        base_fields::write8(table, at + 4, code);
+        base_fields::write24(ByteOrder::Big, table, at + 5, self.start);
+        base_fields::write16(ByteOrder::Big, table, at + 8, self.length);
+        base_fields::write16(ByteOrder::Big, table, at + 10, self.number);
+        base_fields::write24(ByteOrder::Big, table, at + 12, self.offset);
     }
 
     // Row k.
@@ -52,11 +51,11 @@ impl Static {
         let at = base_scope::STATIC_ROW * k;
         Static {
             value: base_fields::read32(ByteOrder::Big, table, at),
-            code: base_fields::read32(ByteOrder::Big, table, at + 4),
-            start: base_fields::read32(ByteOrder::Big, table, at + 8),
-            length: base_fields::read32(ByteOrder::Big, table, at + 12),
-            number: base_fields::read32(ByteOrder::Big, table, at + 16),
-            offset: base_fields::read32(ByteOrder::Big, table, at + 20),
+            code: base_fields::wide(base_fields::read8(table, at + 4)),
+            start: base_fields::read24(ByteOrder::Big, table, at + 5),
+            length: base_fields::read16(ByteOrder::Big, table, at + 8),
+            number: base_fields::read16(ByteOrder::Big, table, at + 10),
+            offset: base_fields::read24(ByteOrder::Big, table, at + 12),
         }
     }
 }

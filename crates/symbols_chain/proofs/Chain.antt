@@ -26,7 +26,7 @@ module _ (C A U late : List ℕ) (f : Filling) (q : PlacesReady C A U late f) (b
         rows-of T (idCount (f .sources)) (idName (f .inputs .order) C A U (f .sources)) (rowOf C A U late f) (ids-few C A U late f q) (omega (arith, r .long, long)) (r .rows) (λ i l t. kind-unnamed _ _ t) (λ i l t. kind-gp _ _ t)
 
     -- what it leaves
-    pub symbols-listed : (B L : List ℕ) (m : ℕ) → 4 * idCount (f .sources) ≤ length B → Listing (idsListed T n) 0 m B L → SymbolsListed C A U late f T L m
+    pub symbols-listed : (B L : List ℕ) (m : ℕ) → 2 * idCount (f .sources) ≤ length B → Listing (idsListed T n) 0 m B L → SymbolsListed C A U late f T L m
     symbols-listed B L m room w =
         let v : Listing (idsListed T (idCount (f .sources))) 0 m B L = rw (r .many) at w in
         record {

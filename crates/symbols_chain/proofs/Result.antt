@@ -11,7 +11,7 @@ use Rattle.symbols_merge.specs.Merged.{numberOf}
 use Rattle.symbols_merge.proofs.Merged.{Taken}
 use Rattle.symbols_merge.proofs.Agree.{Agree, verdict-agree}
 use Rattle.symbols_ids.specs.Ids.{candidates}
-use Rattle.symbols_rows.specs.Rows.{wordIn, HoldersOf}
+use Rattle.symbols_rows.specs.Rows.{halfIn, HoldersOf}
 use Rattle.symbols_rows.specs.Steps.{Holders, verdictIn}
 use Rattle.symbols_rows.proofs.Tables.{holders-of, verdict-is}
 use Rattle.symbols_holders.specs.Ready.{idCount, idName, symbolsIn}
@@ -46,7 +46,7 @@ module _ (C A U late : List ℕ) (f : Filling) (T L : List ℕ) (m : ℕ) (l : S
     pub chain-first : HoldersFirst L H m
     chain-first = holders-first T L H n m name (l .ready .rows) (l .ready .list) h
 
-    pub chain-room : (N : List ℕ) → 4 * n ≤ length N → IdRoom L m N
+    pub chain-room : (N : List ℕ) → 2 * n ≤ length N → IdRoom L m N
     chain-room N u = room-in T L H n m name (l .ready .rows) (l .ready .list) h N u
 
     -- ---- of the merge
@@ -66,12 +66,12 @@ module _ (C A U late : List ℕ) (f : Filling) (T L : List ℕ) (m : ℕ) (l : S
         pub chain-starts : StartsOf t starts
         chain-starts = starts-agree s t chain-agree starts (starts-of T L H n m name (l .ready .rows) (l .ready .list) h starts (w .groups))
 
-        pub chain-order : 4 * m ≤ length O → OrderOf t O
+        pub chain-order : 2 * m ≤ length O → OrderOf t O
         chain-order u = order-agree s t chain-agree O (order-of T L H n m name (l .ready .rows) (l .ready .list) h O u (w .order))
 
-        pub chain-numbers : 4 * n ≤ length N → NumbersOf t N
+        pub chain-numbers : 2 * n ≤ length N → NumbersOf t N
         chain-numbers u = numbers-agree s t chain-agree N (numbers-of T L H n m name (l .ready .rows) (l .ready .list) h N u (w .numbers))
 
         -- the number of a taken id
-        pub chain-number : 4 * n ≤ length N → (i : ℕ) → Taken t i → wordIn N i ≡ numberOf t i
+        pub chain-number : 2 * n ≤ length N → (i : ℕ) → Taken t i → halfIn N i ≡ numberOf t i
         chain-number u i k = chain-numbers u .is i (k .0) ∙ rw (k .1)

@@ -5,7 +5,7 @@ use mathlib.Core.Path.{_≡_}
 use mathlib.Core.List.{List}
 use lib.ListN.{length}
 use Rattle.symbols_merge.specs.Merged.{RESULT-GROUPS}
-use Rattle.symbols_rows.specs.Rows.{wordsIn}
+use Rattle.symbols_rows.specs.Rows.{halvesIn}
 use Rattle.symbols_holders.specs.Ready.{idCount, HoldersReady}
 use Rattle.symbols_numbers.specs.Numbers.{orderIn, groupStarts, IdsNumbered}
 use Rattle.symbols_fill.specs.declared.Filling.{Filling}
@@ -19,5 +19,5 @@ pub record SymbolsListed (C A U late : List ℕ) (f : Filling) (T L : List ℕ) 
 -- starts of the groups, order and numbers
 pub record SymbolsNumbered (T L H : List ℕ) (m : ℕ) (starts O N : List ℕ) : Type 0 where
   pub groups : starts ≡ groupStarts T L H m
-  pub order : wordsIn O (length (orderIn T L H m RESULT-GROUPS)) ≡ orderIn T L H m RESULT-GROUPS
+  pub order : halvesIn O (length (orderIn T L H m RESULT-GROUPS)) ≡ orderIn T L H m RESULT-GROUPS
   pub numbers : IdsNumbered T L H m m N

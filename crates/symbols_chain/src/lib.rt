@@ -30,7 +30,7 @@ pub fn hold_symbols<'a>(
     index: &mut [u8],
     holders: &mut [u8],
 )
-    requires { ⌜ HoldersReady order (now compiled) (now assembled) (now statics) sources (now rows) (now list) m × Room ID_LIMIT (now index) × (4 * m ≤ length (now holders)) ⌝ }
+    requires { ⌜ HoldersReady order (now compiled) (now assembled) (now statics) sources (now rows) (now list) m × Room ID_LIMIT (now index) × (2 * m ≤ length (now holders)) ⌝ }
     ensures { λ _. ⌜ HoldersOf (symbolsIn order (now (compiled .entry)) (now (assembled .entry)) (now (statics .entry)) sources (now (rows .entry))) (now (holders .exit)) m ⌝ }
 {
     symbols_holders::index_list(order, compiled, assembled, statics, sources, list, m, index);

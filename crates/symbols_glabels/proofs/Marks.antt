@@ -18,7 +18,7 @@ use Rattle.base_fields.specs.declared.ByteOrder.the-variants.{Big}
 use Rattle.base_fields.specs.Numbers.{encoded}
 use Rattle.base_scope.specs.Limits.{SYMBOL_LIMIT}
 use Rattle.base_index.specs.Index.{bucketOf, nextIn, headIn, inBucket, Indexed}
-use Rattle.base_index.proofs.Table.{withWord, word-long, word-same, word-other}
+use Rattle.base_index.proofs.Table.{withNumber, number-long, number-same, number-other}
 use Rattle.base_index.proofs.Index.{bucket-low, Implies, in-bucket, bucket-in}
 use Rattle.elf_symbols.specs.Symbols.{symbolCount, symbolName, isSymbolNamed}
 use Rattle.symbols_glabels.specs.Words.{markIn, newWord, Marked, Holds, isItem, Visited, Uniform}
@@ -26,13 +26,13 @@ use Rattle.symbols_glabels.specs.Words.{markIn, newWord, Marked, Holds, 
 -- ---- one word
 
 module _ (M : List ℕ) (k x : ℕ) (fits : 4 * k + 4 ≤ length M) where
-  new-same : markIn (withWord M (4 * k) x) k ≡ x
+  new-same : markIn (withNumber 4 M (4 * k) x) k ≡ x
   unfolding markIn
-  new-same = word-same M (4 * k) x fits
+  new-same = number-same 3 M (4 * k) x fits
 
-  new-other : (j : ℕ) → j ≢ k → markIn (withWord M (4 * k) x) j ≡ markIn M j
+  new-other : (j : ℕ) → j ≢ k → markIn (withNumber 4 M (4 * k) x) j ≡ markIn M j
   unfolding markIn
-  new-other j d = word-other M (4 * k) x fits (4 * j) (omega arith)
+  new-other j d = number-other 4 M (4 * k) x fits 4 (4 * j) (omega arith)
 
 module _ (put k n : ℕ) (before : List ℕ) where
   -- a word that changes
@@ -43,7 +43,7 @@ module _ (put k n : ℕ) (before : List ℕ) where
       let w : ℕ = newWord put (markIn before k) in
       rw e (record {
         marked = record {
-          long = word-long before (4 * k) w fits;
+          long = number-long 4 before (4 * k) w fits;
           words = λ j h. by-test (eqb k j)
               (λ s. let q : k ≡ j = eqb-true k j s in rw (← q, eq-eqb k k refl) (new-same before k w fits))
               (λ s. rw s (new-other before k w fits j (λ q. both (eq-eqb k j (sym q)) s)));

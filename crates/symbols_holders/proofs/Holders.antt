@@ -23,7 +23,7 @@ use Rattle.symbols_merge.specs.Listed.{listed, listedAt, isAlike, holderOf}
 use Rattle.symbols_merge.proofs.Names.{alike-named, alike-name, unnamed-one, alike-parts}
 use Rattle.symbols_names.specs.declared.Sources.{Sources}
 use Rattle.symbols_rows.specs.declared.IdRow.{IdRow}
-use Rattle.symbols_rows.specs.Rows.{idUnnamed, idRow, candidatesIn, RowsOf, wordIn, ListOf}
+use Rattle.symbols_rows.specs.Rows.{idUnnamed, idRow, candidatesIn, RowsOf, halfIn, ListOf}
 use Rattle.symbols_rows.specs.Steps.{idsListed, Position}
 use Rattle.symbols_rows.proofs.Rows.{row-fields}
 use Rattle.symbols_rows.proofs.Listing.{listed-names, listed-few}
@@ -36,7 +36,7 @@ Walked o C A U s T I p k = Reached (isAlike (symbolsIn o C A U s T) p) (hashIn I
 
 -- what the comparison of p with k reads, in its order: both hashes, both ids, both names
 module _ (o : ByteOrder) (C A U : List ℕ) (s : Sources) (L I : List ℕ) (p k x y : ℕ) (hash-k : x ≡ hashIn I k) (hash-p : y ≡ hashIn I p) where
-  pub alike-read : (i j : ℕ) (r : Bool) → x ≡ y → i ≡ wordIn L p → j ≡ wordIn L k → r ≡ same (idName o C A U s i) (idName o C A U s j)
+  pub alike-read : (i j : ℕ) (r : Bool) → x ≡ y → i ≡ halfIn L p → j ≡ halfIn L k → r ≡ same (idName o C A U s i) (idName o C A U s j)
       → r ≡ alikeIn o C A U s L I p k
   unfolding alikeIn
   alike-read i j r e id-p id-k told = rw (eq-eqb _ _ (sym hash-k ∙ e ∙ hash-p), ← id-p, ← id-k) told
@@ -70,15 +70,15 @@ module _ (o : ByteOrder) (C A U : List ℕ) (s : Sources) (T L I : List ℕ) (it
   pub position-here : Position T L p
   position-here = positions-of T (idCount s) name (q .ready .rows) L m (q .ready .list) p (q .low)
 
-  word-at : (k : ℕ) → k < m → listedAt S k ≡ wordIn L k
+  word-at : (k : ℕ) → k < m → listedAt S k ≡ halfIn L k
   word-at k l = sym (list-at S L m (q .ready .list) k l)
 
-  id-low : (k : ℕ) → k < m → wordIn L k < idCount s
+  id-low : (k : ℕ) → k < m → halfIn L k < idCount s
   unfolding candidatesIn
   id-low k l = list-taken S L m (q .ready .list) k l .0
 
-  unnamed-here : idUnnamed T (wordIn L p) ≡ isUnnamed S (listedAt S p)
-  unnamed-here = rw (word-at p (q .low)) (q .ready .rows .unnamed (wordIn L p) (id-low p (q .low)) (listed-row T (idCount s) name (q .ready .rows) L m (q .ready .list) p (q .low)))
+  unnamed-here : idUnnamed T (halfIn L p) ≡ isUnnamed S (listedAt S p)
+  unnamed-here = rw (word-at p (q .low)) (q .ready .rows .unnamed (halfIn L p) (id-low p (q .low)) (listed-row T (idCount s) name (q .ready .rows) L m (q .ready .list) p (q .low)))
 
   pub position-held : (k : ℕ) → k < m → PositionHeld s L I k
   position-held k l = record {
@@ -90,22 +90,22 @@ module _ (o : ByteOrder) (C A U : List ℕ) (s : Sources) (T L I : List ℕ) (it
   -- ---- hashes
 
   -- the names of positions that are alike have one hash
-  pub alike-ids : (k : ℕ) → k < m → isAlike S p k ≡ true → hashOf (name (wordIn L k)) ≡ hashOf (name (wordIn L p))
+  pub alike-ids : (k : ℕ) → k < m → isAlike S p k ≡ true → hashOf (name (halfIn L k)) ≡ hashOf (name (halfIn L p))
   unfolding candidatesIn
   alike-ids k l t =
       let e : name (listedAt S p) ≡ name (listedAt S k) = alike-name S p k t in
-      let f : name (wordIn L p) ≡ name (wordIn L k) = rw (word-at p (q .low), word-at k l) at e in
+      let f : name (halfIn L p) ≡ name (halfIn L k) = rw (word-at p (q .low), word-at k l) at e in
       same-hash _ _ (sym f)
 
   implied : Implies (isAlike S p) (hashIn I p) I m
   implied k l t = q .index .hashed .each k l ∙ alike-ids k l t ∙ sym (q .index .hashed .each p (q .low))
 
   -- what the code compares is what makes a holder, where p has a name
-  pub alike-told : (k : ℕ) → k < m → idUnnamed T (wordIn L p) ≡ false → alikeIn o C A U s L I p k ≡ isAlike S p k
+  pub alike-told : (k : ℕ) → k < m → idUnnamed T (halfIn L p) ≡ false → alikeIn o C A U s L I p k ≡ isAlike S p k
   unfolding alikeIn candidatesIn
   alike-told k l named =
       let e : isAlike S p k ≡ same (name (listedAt S p)) (name (listedAt S k)) = alike-named S p k (sym unnamed-here ∙ named) in
-      let f : isAlike S p k ≡ same (name (wordIn L p)) (name (wordIn L k)) = rw (word-at p (q .low), word-at k l) at e in
+      let f : isAlike S p k ≡ same (name (halfIn L p)) (name (halfIn L k)) = rw (word-at p (q .low), word-at k l) at e in
       by-test (eqb (hashIn I k) (hashIn I p))
       (λ t. rw t (sym f))
       (λ g. rw g (by-test (isAlike S p k) (λ t. absurd (eqb-false _ _ g (implied k l t))) (λ n. sym n)))
@@ -131,9 +131,9 @@ module _ (o : ByteOrder) (C A U : List ℕ) (s : Sources) (T L I : List ℕ) (it
   walk-first h k g e = rw (e, q .many, g) (reach-first (isAlike S p) (hashIn I p) I m implied ID_LIMIT (q .index .indexed))
 
   -- the row of p's id
-  module _ (row : IdRow) (is : row ≡ idRow T (wordIn L p)) where
-    unnamed-told : idUnnamed T (wordIn L p) ≡ row .unnamed
-    unnamed-told = row-fields T (wordIn L p) row (sym is) .unnamed
+  module _ (row : IdRow) (is : row ≡ idRow T (halfIn L p)) where
+    unnamed-told : idUnnamed T (halfIn L p) ≡ row .unnamed
+    unnamed-told = row-fields T (halfIn L p) row (sym is) .unnamed
 
     -- an unnamed position holds itself
     pub own-unnamed : row .unnamed ≡ true → p ≡ holderOf S p

@@ -12,28 +12,28 @@ use Rattle.base_fields.specs.Numbers.{encoded}
 use Rattle.base_fields.proofs.Numbers.{length-encoded}
 use Rattle.base_scope.specs.Limits.{ID_LIMIT}
 use Rattle.base_index.specs.Index.{hashOf, hashPlace, Built}
-use Rattle.base_index.proofs.Table.{withWord, word-long, word-same, word-other, hash-same, hash-other}
+use Rattle.base_index.proofs.Table.{withNumber, number-long, number-same, number-other, hash-same, hash-other}
 use Rattle.symbols_merge.specs.Candidates.{Candidates}
 use Rattle.symbols_merge.specs.Listed.{holderOf}
-use Rattle.symbols_rows.specs.Rows.{wordIn}
+use Rattle.symbols_rows.specs.Rows.{halfIn}
 use Rattle.symbols_holders.specs.Ready.{Hashed, ListIndexed, NamesHeld}
 
 -- ---- hashes put
 
 module _ (name : ℕ → List ℕ) (L : List ℕ) where
   -- what `put_hash` reads and writes, in its order: the id at p, the hash of its name, the word
-  pub hash-put : (I J : List ℕ) (p i h : ℕ) → i ≡ wordIn L p → h ≡ hashOf (name i) → J ≡ withWord I (hashPlace p) h
-      → J ≡ withWord I (hashPlace p) (hashOf (name (wordIn L p)))
-  hash-put I J p i h id is put = put ∙ ap (withWord I (hashPlace p)) (is ∙ ap (λ (k : ℕ). hashOf (name k)) id)
+  pub hash-put : (I J : List ℕ) (p i h : ℕ) → i ≡ halfIn L p → h ≡ hashOf (name i) → J ≡ withNumber 2 I (hashPlace p) h
+      → J ≡ withNumber 2 I (hashPlace p) (hashOf (name (halfIn L p)))
+  hash-put I J p i h id is put = put ∙ ap (withNumber 2 I (hashPlace p)) (is ∙ ap (λ (k : ℕ). hashOf (name k)) id)
 
   pub hashed-none : (I : List ℕ) → Hashed name L I 0
   hashed-none I = record { each = λ p l. absurd (omega arith) }
 
-  pub hashed-next : (I J : List ℕ) (p : ℕ) → hashPlace p + 4 ≤ length I → J ≡ withWord I (hashPlace p) (hashOf (name (wordIn L p))) → Hashed name L I p → Hashed name L J (p + 1)
+  pub hashed-next : (I J : List ℕ) (p : ℕ) → hashPlace p + 2 ≤ length I → J ≡ withNumber 2 I (hashPlace p) (hashOf (name (halfIn L p))) → Hashed name L I p → Hashed name L J (p + 1)
   hashed-next I J p fits e h = rw e (record {
     each = λ k l. by-last k p (omega arith)
-        (λ d. hash-other I p (hashOf (name (wordIn L p))) fits k (λ q. absurd (omega arith)) ∙ h .each k d)
-        (λ q. rw q (hash-same I p (hashOf (name (wordIn L p))) fits));
+        (λ d. hash-other I p (hashOf (name (halfIn L p))) fits k (λ q. absurd (omega arith)) ∙ h .each k d)
+        (λ q. rw q (hash-same I p (hashOf (name (halfIn L p))) fits));
   })
 
   -- building the index keeps the hashes
@@ -46,34 +46,34 @@ module _ (s : Candidates) where
   pub names-none : (H : List ℕ) → NamesHeld s 0 H H
   names-none H = record { held = record { long = omega arith; is = λ p l. absurd (omega arith) }; kept = refl }
 
-  module _ (G H J : List ℕ) (p : ℕ) (fits : 4 * p + 4 ≤ length H) (put : J ≡ withWord H (4 * p) (holderOf s p)) (n : NamesHeld s p G H) where
+  module _ (G H J : List ℕ) (p : ℕ) (fits : 2 * p + 2 ≤ length H) (put : J ≡ withNumber 2 H (2 * p) (holderOf s p)) (n : NamesHeld s p G H) where
     abbrev X : List ℕ
-    X = withWord H (4 * p) (holderOf s p)
+    X = withNumber 2 H (2 * p) (holderOf s p)
 
-    holder-same : wordIn X p ≡ holderOf s p
-    unfolding wordIn
-    holder-same = word-same H (4 * p) (holderOf s p) fits
+    holder-same : halfIn X p ≡ holderOf s p
+    unfolding halfIn
+    holder-same = number-same 1 H (2 * p) (holderOf s p) fits
 
-    holder-other : (k : ℕ) → k < p → wordIn X k ≡ wordIn H k
-    unfolding wordIn
-    holder-other k l = word-other H (4 * p) (holderOf s p) fits (4 * k) (omega arith)
+    holder-other : (k : ℕ) → k < p → halfIn X k ≡ halfIn H k
+    unfolding halfIn
+    holder-other k l = number-other 2 H (2 * p) (holderOf s p) fits 2 (2 * k) (omega arith)
 
-    further : (K : List ℕ) → drop (4 * (p + 1)) K ≡ drop 4 (drop (4 * p) K)
+    further : (K : List ℕ) → drop (2 * (p + 1)) K ≡ drop 2 (drop (2 * p) K)
     further K =
-        let e : 4 * (p + 1) ≡ 4 * p + 4 = omega arith in
-        ap (λ (x : ℕ). drop x K) e ∙ sym (drop-drop 4 (4 * p) K)
+        let e : 2 * (p + 1) ≡ 2 * p + 2 = omega arith in
+        ap (λ (x : ℕ). drop x K) e ∙ sym (drop-drop 2 (2 * p) K)
 
-    behind : drop (4 * (p + 1)) X ≡ drop (4 * (p + 1)) H
+    behind : drop (2 * (p + 1)) X ≡ drop (2 * (p + 1)) H
     behind =
-        let w = encoded Big 4 (holderOf s p) in
-        let e : 4 * p + length w ≡ 4 * (p + 1) = omega (arith, length-encoded Big 4 (holderOf s p)) in
-        rw (← e) (drop-spliced H (4 * p) w (rw (length-encoded Big 4 (holderOf s p)) fits))
+        let w = encoded Big 2 (holderOf s p) in
+        let e : 2 * p + length w ≡ 2 * (p + 1) = omega (arith, length-encoded Big 2 (holderOf s p)) in
+        rw (← e) (drop-spliced H (2 * p) w (rw (length-encoded Big 2 (holderOf s p)) fits))
 
     pub names-next : NamesHeld s (p + 1) G J
     names-next = rw put (record {
       held = record {
-        long = rw (word-long H (4 * p) (holderOf s p) fits) (omega arith);
+        long = rw (number-long 2 H (2 * p) (holderOf s p) fits) (omega arith);
         is = λ k l. by-last k p (omega arith) (λ d. holder-other k d ∙ n .held .is k d) (λ q. rw q holder-same);
       };
-      kept = behind ∙ further H ∙ ap (drop 4) (n .kept) ∙ sym (further G);
+      kept = behind ∙ further H ∙ ap (drop 2) (n .kept) ∙ sym (further G);
     })

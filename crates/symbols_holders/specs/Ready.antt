@@ -16,11 +16,11 @@ use Rattle.symbols_merge.specs.Listed.{listed}
 use Rattle.symbols_ids.specs.Ids.{nameOf}
 use Rattle.symbols_names.specs.declared.Sources.{Sources}
 use Rattle.symbols_names.specs.Names.{firstIn, SourcesRead}
-use Rattle.symbols_rows.specs.Rows.{candidatesIn, RowsOf, wordIn, ListOf, HoldersOf}
+use Rattle.symbols_rows.specs.Rows.{candidatesIn, RowsOf, halfIn, ListOf, HoldersOf}
 
 -- each of the first m items of the index has the hash of the name of its position's id
 pub record Hashed (name : ℕ → List ℕ) (L I : List ℕ) (m : ℕ) : Type 0 where
-  pub each : (p : ℕ) → p < m → hashIn I p ≡ hashOf (name (wordIn L p))
+  pub each : (p : ℕ) → p < m → hashIn I p ≡ hashOf (name (halfIn L p))
 
 -- the list is indexed by the hashes of the names of its ids
 pub record ListIndexed (name : ℕ → List ℕ) (L I : List ℕ) (m : ℕ) : Type 0 where
@@ -31,15 +31,15 @@ pub record ListIndexed (name : ℕ → List ℕ) (L I : List ℕ) (m : ℕ) : Ty
 abbrev pub idCount : Sources → ℕ
 idCount s = firstIn s + s .statics
 
--- each of the first m words of the list is an id
+-- each of the first m numbers of the list is an id
 abbrev pub ListHeld : Sources → List ℕ → ℕ → Type 0
-ListHeld s L m = (p : ℕ) → p < m → (4 * p + 4 ≤ length L) × (wordIn L p < idCount s)
+ListHeld s L m = (p : ℕ) → p < m → (2 * p + 2 ≤ length L) × (halfIn L p < idCount s)
 
--- position p has its item in the index and its word in the list, and that is an id
+-- position p has its item in the index and its number in the list, and that is an id
 pub record PositionHeld (s : Sources) (L I : List ℕ) (p : ℕ) : Type 0 where
-  pub item : hashPlace p + 4 ≤ length I
-  pub word : 4 * p + 4 ≤ length L
-  pub id : wordIn L p < idCount s
+  pub item : hashPlace p + 2 ≤ length I
+  pub word : 2 * p + 2 ≤ length L
+  pub id : halfIn L p < idCount s
 
 module _ (o : ByteOrder) (C A U : List ℕ) (s : Sources) where
   -- the working names of the ids
@@ -48,7 +48,7 @@ module _ (o : ByteOrder) (C A U : List ℕ) (s : Sources) where
 
   -- positions p and k have one hash and one name
   unfoldable pub alikeIn : List ℕ → List ℕ → ℕ → ℕ → Bool
-  alikeIn L I p k = cond (eqb (hashIn I k) (hashIn I p)) (same (idName (wordIn L p)) (idName (wordIn L k))) false
+  alikeIn L I p k = cond (eqb (hashIn I k) (hashIn I p)) (same (idName (halfIn L p)) (idName (halfIn L k))) false
 
   -- the candidates in hand
   abbrev pub symbolsIn : List ℕ → Candidates
@@ -67,7 +67,7 @@ module _ (o : ByteOrder) (C A U : List ℕ) (s : Sources) where
     pub ready : HoldersReady T L (length (listed (symbolsIn T)))
     pub index : ListIndexed idName L I (length (listed (symbolsIn T)))
 
--- the first m words are the holders of their positions, and what stands behind them is as before
+-- the first m numbers are the holders of their positions, and what stands behind them is as before
 pub record NamesHeld (s : Candidates) (m : ℕ) (before after : List ℕ) : Type 0 where
   pub held : HoldersOf s after m
-  pub kept : drop (4 * m) after ≡ drop (4 * m) before
+  pub kept : drop (2 * m) after ≡ drop (2 * m) before

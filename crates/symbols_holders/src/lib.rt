@@ -14,7 +14,7 @@ ghost use Rattle.base_scope.specs.Limits.{STATIC_LIMIT, ID_LIMIT};
 ghost use Rattle.statics_table.specs.Statics.{countTail};
 ghost use Rattle.symbols_merge.specs.Listed.{holderOf};
 ghost use Rattle.symbols_names.specs.Names.{SourcesRead};
-ghost use Rattle.symbols_rows.specs.Rows.{wordIn};
+ghost use Rattle.symbols_rows.specs.Rows.{halfIn};
 ghost use Rattle.symbols_holders.specs.Ready.{Hashed, ListIndexed, ListHeld, PositionHeld, alikeIn, idCount, idName, symbolsIn, HoldersReady, PositionReady, NamesHeld};
 use base_fields::ByteOrder;
 use symbols_names::Sources;
@@ -96,10 +96,10 @@ fn put_hash<'a>(
     index: &mut [u8],
 )
     requires { ⌜ SourcesRead order (now compiled) (now assembled) (now statics) sources × PositionHeld sources (now list) (now index) p ⌝ }
-    ensures { λ _. ⌜ now (index .exit) ≡ spliced (now (index .entry)) (hashPlace p) (encoded Big 4
-        (hashOf (idName order (now (compiled .entry)) (now (assembled .entry)) (now (statics .entry)) sources (wordIn (now (list .entry)) p)))) ⌝ }
+    ensures { λ _. ⌜ now (index .exit) ≡ spliced (now (index .entry)) (hashPlace p) (encoded Big 2
+        (hashOf (idName order (now (compiled .entry)) (now (assembled .entry)) (now (statics .entry)) sources (halfIn (now (list .entry)) p)))) ⌝ }
 {
-    let id = symbols_rows::word_at(list, p);
+    let id = symbols_rows::half_at(list, p);
     let hash = name_hash(order, compiled, assembled, statics, sources, id);
     base_index::put_hash(index, p, hash);
 }
@@ -160,8 +160,8 @@ fn is_alike<'a>(
     ensures { λ r. ⌜ r ≡ alikeIn order (now (compiled .entry)) (now (assembled .entry)) (now (statics .entry)) sources (now (list .entry)) (now (index .entry)) p k ⌝ }
 {
     if base_index::hash_at(index, k) == base_index::hash_at(index, p) {
-        let i = symbols_rows::word_at(list, p);
-        let j = symbols_rows::word_at(list, k);
+        let i = symbols_rows::half_at(list, p);
+        let j = symbols_rows::half_at(list, k);
         return symbols_names::is_same_name(order, compiled, assembled, statics, sources, i, j);
     }
     false
@@ -222,8 +222,8 @@ fn hold_name<'a>(
     p: usize,
     holders: &mut [u8],
 )
-    requires { ⌜ PositionReady order (now compiled) (now assembled) (now statics) sources (now rows) (now list) (now index) m p × (4 * p + 4 ≤ length (now holders)) ⌝ }
-    ensures { λ _. ⌜ now (holders .exit) ≡ spliced (now (holders .entry)) (4 * p) (encoded Big 4
+    requires { ⌜ PositionReady order (now compiled) (now assembled) (now statics) sources (now rows) (now list) (now index) m p × (2 * p + 2 ≤ length (now holders)) ⌝ }
+    ensures { λ _. ⌜ now (holders .exit) ≡ spliced (now (holders .entry)) (2 * p) (encoded Big 2
         (holderOf (symbolsIn order (now (compiled .entry)) (now (assembled .entry)) (now (statics .entry)) sources (now (rows .entry))) p)) ⌝ }
 {
     let holder = holder_at(
@@ -238,7 +238,7 @@ fn hold_name<'a>(
         m,
         p,
     );
-    base_fields::write32(ByteOrder::Big, holders, 4 * p, holder as u32);
+    base_fields::write16(ByteOrder::Big, holders, 2 * p, holder as u32);
 }
 
 // Puts the holders of the m positions of the list.
@@ -255,7 +255,7 @@ pub fn hold_names<'a>(
     holders: &mut [u8],
 )
     requires { ⌜ HoldersReady order (now compiled) (now assembled) (now statics) sources (now rows) (now list) m
-        × ListIndexed (idName order (now compiled) (now assembled) (now statics) sources) (now list) (now index) m × (4 * m ≤ length (now holders)) ⌝ }
+        × ListIndexed (idName order (now compiled) (now assembled) (now statics) sources) (now list) (now index) m × (2 * m ≤ length (now holders)) ⌝ }
     ensures { λ _. ⌜ NamesHeld (symbolsIn order (now (compiled .entry)) (now (assembled .entry)) (now (statics .entry)) sources (now (rows .entry))) m
         (now (holders .entry)) (now (holders .exit)) ⌝ }
 {

@@ -18,7 +18,7 @@ use Rattle.base_fields.proofs.Numbers.{length-encoded, number-spliced, number-o
 use Rattle.base_packed.specs.declared.MergedSymbol.{MergedSymbol}
 use Rattle.symbols_merge.specs.Merged.{LOCAL-GROUPS}
 use Rattle.symbols_rows.specs.declared.IdRow.{IdRow}
-use Rattle.symbols_rows.specs.Rows.{idRow, wordIn, resultGroupIn}
+use Rattle.symbols_rows.specs.Rows.{idRow, halfIn, resultGroupIn}
 use Rattle.symbols_rows.proofs.Rows.{row-fields}
 use Rattle.base_scope.specs.Elf.{STB_LOCAL}
 use Rattle.symbols_numbers.specs.declared.NewSymbol.the-variants.{Merged, Gone}
@@ -34,49 +34,49 @@ pub group-other : (b : ℕ) → (b ≡ STB_LOCAL → ⊥) → bindingGroup b ≡
 unfolding bindingGroup
 group-other b d = rw (ne-eqb b STB_LOCAL d)
 
-pub group-told : (T L : List ℕ) (p : ℕ) (row : IdRow) (g x : ℕ) → row ≡ idRow T (wordIn L p) → g ≡ bindingGroup (row .binding) → x ≡ cond (row .«gp_disp») 1 0
+pub group-told : (T L : List ℕ) (p : ℕ) (row : IdRow) (g x : ℕ) → row ≡ idRow T (halfIn L p) → g ≡ bindingGroup (row .binding) → x ≡ cond (row .«gp_disp») 1 0
     → g + x ≡ resultGroupIn T L p
 unfolding resultGroupIn bindingGroup
 group-told T L p row g x e f k =
-    let r = row-fields T (wordIn L p) row (sym e) in
+    let r = row-fields T (halfIn L p) row (sym e) in
     rw (f, k, r .binding, r .gpDisp)
 
 -- ---- holders
 
-pub holds-self : (H : List ℕ) (p : ℕ) → wordIn H p ≡ p → holdsIn H p ≡ true
+pub holds-self : (H : List ℕ) (p : ℕ) → halfIn H p ≡ p → holdsIn H p ≡ true
 unfolding holdsIn
 holds-self H p e = eq-eqb _ _ e
 
-pub held-else : (H : List ℕ) (p : ℕ) → (wordIn H p ≡ p → ⊥) → holdsIn H p ≡ false
+pub held-else : (H : List ℕ) (p : ℕ) → (halfIn H p ≡ p → ⊥) → holdsIn H p ≡ false
 unfolding holdsIn
 held-else H p d = ne-eqb _ _ d
 
-pub self-holds : (H : List ℕ) (p : ℕ) → holdsIn H p ≡ true → wordIn H p ≡ p
+pub self-holds : (H : List ℕ) (p : ℕ) → holdsIn H p ≡ true → halfIn H p ≡ p
 unfolding holdsIn
 self-holds H p t = eqb-true _ _ t
 
-pub else-held : (H : List ℕ) (p : ℕ) → holdsIn H p ≡ false → wordIn H p ≢ p
+pub else-held : (H : List ℕ) (p : ℕ) → holdsIn H p ≡ false → halfIn H p ≢ p
 unfolding holdsIn
 else-held H p f = eqb-false _ _ f
 
 -- ---- a word written
 
-module _ (T : List ℕ) (k x : ℕ) (fits : 4 * k + 4 ≤ length T) where
-  within : 4 * k + length (encoded Big 4 x) ≤ length T
-  within = rw (length-encoded Big 4 x) fits
+module _ (T : List ℕ) (k x : ℕ) (fits : 2 * k + 2 ≤ length T) where
+  within : 2 * k + length (encoded Big 2 x) ≤ length T
+  within = rw (length-encoded Big 2 x) fits
 
-  pub word-long : length (spliced T (4 * k) (encoded Big 4 x)) ≡ length T
-  word-long = length-spliced T (4 * k) (encoded Big 4 x) within
+  pub word-long : length (spliced T (2 * k) (encoded Big 2 x)) ≡ length T
+  word-long = length-spliced T (2 * k) (encoded Big 2 x) within
 
-  pub word-same : wordIn (spliced T (4 * k) (encoded Big 4 x)) k ≡ x
-  unfolding wordIn
-  word-same = number-spliced Big 3 x (4 * k) T fits
+  pub word-same : halfIn (spliced T (2 * k) (encoded Big 2 x)) k ≡ x
+  unfolding halfIn
+  word-same = number-spliced Big 1 x (2 * k) T fits
 
-  pub word-other : (j : ℕ) → j ≢ k → wordIn (spliced T (4 * k) (encoded Big 4 x)) j ≡ wordIn T j
-  unfolding wordIn
+  pub word-other : (j : ℕ) → j ≢ k → halfIn (spliced T (2 * k) (encoded Big 2 x)) j ≡ halfIn T j
+  unfolding halfIn
   word-other j d =
-      number-outside Big 4 (4 * j) T (4 * k) (encoded Big 4 x) within
-      (rw (length-encoded Big 4 x) (by-lt k j (λ l. inr (omega arith)) (λ l. inl (omega arith))))
+      number-outside Big 2 (2 * j) T (2 * k) (encoded Big 2 x) within
+      (rw (length-encoded Big 2 x) (by-lt k j (λ l. inr (omega arith)) (λ l. inl (omega arith))))
 
 -- ---- the symbol of a number
 
@@ -90,7 +90,7 @@ symbol-some zero s d e = absurd (d refl)
 symbol-some (suc x) s d e = rw (← e)
 
 module _ (N : List ℕ) (from many k : ℕ) where
-  pub new-in : k < many → newIn N from many k ≡ newSymbol (wordIn N (from + k))
+  pub new-in : k < many → newIn N from many k ≡ newSymbol (halfIn N (from + k))
   unfolding newIn
   new-in h = rw (lt-ltb k many h)
 
@@ -98,12 +98,12 @@ module _ (N : List ℕ) (from many k : ℕ) where
   unfolding newIn
   new-past h = rw (le-ltb k many h)
 
-pub new-first : (N : List ℕ) (many k : ℕ) → k < many → newIn N 0 many k ≡ newSymbol (wordIn N k)
+pub new-first : (N : List ℕ) (many k : ℕ) → k < many → newIn N 0 many k ≡ newSymbol (halfIn N k)
 new-first N many k h = new-in N 0 many k h ∙ rw (zero-add k)
 
 -- ---- what each leaf answers
 
-pub holder-told : (H : List ℕ) (p w : ℕ) → w ≡ wordIn H p → eqb w p ≡ holdsIn H p
+pub holder-told : (H : List ℕ) (p w : ℕ) → w ≡ halfIn H p → eqb w p ≡ holdsIn H p
 unfolding holdsIn
 holder-told H p w e = rw e
 
@@ -114,23 +114,23 @@ pub behind-else : (H : List ℕ) (p n : ℕ) → holdsIn H p ≡ false → n ≡
 behind-else H p n f = rw f (omega arith)
 
 module _ (H : List ℕ) (p place : ℕ) where
-  pub ordered-held : (before after : List ℕ) → holdsIn H p ≡ true → after ≡ spliced before (4 * place) (encoded Big 4 p) → OrderedAt H p place (place + 1) before after
+  pub ordered-held : (before after : List ℕ) → holdsIn H p ≡ true → after ≡ spliced before (2 * place) (encoded Big 2 p) → OrderedAt H p place (place + 1) before after
   ordered-held before after t e = record { next-is = behind-held H p place t; put = λ s. e; kept = λ f. both t f }
 
   pub ordered-else : (before : List ℕ) → holdsIn H p ≡ false → OrderedAt H p place place before before
   ordered-else before f = record { next-is = behind-else H p place f; put = λ t. both t f; kept = λ s. refl }
 
 module _ (L H : List ℕ) (p place : ℕ) (N : List ℕ) where
-  pub number-held : (w r : ℕ) → w ≡ wordIn H p → w ≡ p → r ≡ place + 1 → r ≡ numberOn L H p place N
+  pub number-held : (w r : ℕ) → w ≡ halfIn H p → w ≡ p → r ≡ place + 1 → r ≡ numberOn L H p place N
   unfolding numberOn
   number-held w r e h f = rw (holds-self H p (sym e ∙ h)) f
 
-  pub number-else : (w i r : ℕ) → w ≡ wordIn H p → (w ≡ p → ⊥) → i ≡ wordIn L w → r ≡ wordIn N i → r ≡ numberOn L H p place N
+  pub number-else : (w i r : ℕ) → w ≡ halfIn H p → (w ≡ p → ⊥) → i ≡ halfIn L w → r ≡ halfIn N i → r ≡ numberOn L H p place N
   unfolding numberOn
   number-else w i r e d f g =
       let q : holdsIn H p ≡ false = held-else H p (λ h. d (e ∙ h)) in
-      rw q (g ∙ ap (wordIn N) (f ∙ ap (wordIn L) e))
+      rw q (g ∙ ap (halfIn N) (f ∙ ap (halfIn L) e))
 
-  pub numbered-put : (w x next : ℕ) (after : List ℕ) → x ≡ numberOn L H p place N → w ≡ wordIn L p → after ≡ spliced N (4 * w) (encoded Big 4 x) → next ≡ countBehind H p place
+  pub numbered-put : (w x next : ℕ) (after : List ℕ) → x ≡ numberOn L H p place N → w ≡ halfIn L p → after ≡ spliced N (2 * w) (encoded Big 2 x) → next ≡ countBehind H p place
       → NumberedAt L H p place next N after
   numbered-put w x next after e f g n = record { next-is = n; put = g ∙ rw (e, f) }

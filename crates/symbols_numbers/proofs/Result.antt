@@ -20,7 +20,7 @@ use Rattle.symbols_merge.specs.Merged.{RESULT-GROUPS, LOCAL-GROUPS, resultGroup
 use Rattle.symbols_merge.proofs.Names.{alike-parts}
 use Rattle.symbols_merge.proofs.Merged.{Taken, position-lt, listed-position, number-in}
 use Rattle.symbols_merge.proofs.Agree.{Agree, merged-agree, count-agree, locals-agree, number-agree}
-use Rattle.symbols_rows.specs.Rows.{idTaken, idBinding, candidatesIn, RowsOf, wordIn, wordsIn, ListOf, HoldersOf, resultGroupIn}
+use Rattle.symbols_rows.specs.Rows.{idTaken, idBinding, candidatesIn, RowsOf, halfIn, halvesIn, ListOf, HoldersOf, resultGroupIn}
 use Rattle.symbols_rows.proofs.Tables.{list-long, list-at, list-taken, holder-in, holders-of}
 use Rattle.symbols_numbers.specs.declared.NewSymbol.{NewSymbol}
 use Rattle.symbols_numbers.specs.declared.NewSymbol.the-variants.{Merged, Gone}
@@ -78,10 +78,10 @@ module _ (T L H : List ℕ) (n m : ℕ) (name : ℕ → List ℕ) where
     in-list : (p : ℕ) → p < m → p < length (listed s)
     in-list p u = rw long-is u
 
-    id-lt : (p : ℕ) → p < m → wordIn L p < n
+    id-lt : (p : ℕ) → p < m → halfIn L p < n
     id-lt p u = rw many-is at (list-taken s L m l p u .0)
 
-    held-word : (p : ℕ) → p < m → wordIn H p < m
+    held-word : (p : ℕ) → p < m → halfIn H p < m
     held-word p u = holder-in s L m l H h p u
 
     -- ---- groups and holders
@@ -90,13 +90,13 @@ module _ (T L H : List ℕ) (n m : ℕ) (name : ℕ → List ℕ) where
     unfolding isLocal candidatesIn
     local-is i = refl
 
-    row-taken : (p : ℕ) → p < m → idTaken T (wordIn L p) ≡ true
+    row-taken : (p : ℕ) → p < m → idTaken T (halfIn L p) ≡ true
     unfolding candidatesIn
     row-taken p u = list-taken s L m l p u .1
 
     pub result-group-is : (p : ℕ) → p < m → resultGroupIn T L p ≡ groupAtPosition s p
     unfolding resultGroupIn groupAtPosition resultGroup
-    result-group-is p u = rw (← list-at s L m l p u, local-is (wordIn L p), ← r .gpDisp (wordIn L p) (id-lt p u) (row-taken p u))
+    result-group-is p u = rw (← list-at s L m l p u, local-is (halfIn L p), ← r .gpDisp (halfIn L p) (id-lt p u) (row-taken p u))
 
     pub holder-is : (p : ℕ) → p < m → holdsIn H p ≡ isMerged s p
     unfolding holdsIn isMerged isHolder holderOf
@@ -111,10 +111,10 @@ module _ (T L H : List ℕ) (n m : ℕ) (name : ℕ → List ℕ) where
     holders-first = record {
       once = λ p q u v e. listed-once s p q (in-list p u) (in-list q v) (sym (list-at s L m l p u) ∙ e ∙ list-at s L m l q v);
       early = λ p u. rw (h .is p u) (holder-early s p (in-list p u));
-      itself = λ p u. h .is (wordIn H p) (held-word p u) ∙ ap (holderOf s) (h .is p u) ∙ holder-itself s p (in-list p u) ∙ sym (h .is p u);
+      itself = λ p u. h .is (halfIn H p) (held-word p u) ∙ ap (holderOf s) (h .is p u) ∙ holder-itself s p (in-list p u) ∙ sym (h .is p u);
     }
 
-    pub room-in : (N : List ℕ) → 4 * n ≤ length N → IdRoom L m N
+    pub room-in : (N : List ℕ) → 2 * n ≤ length N → IdRoom L m N
     room-in N u = record { word = λ p v. omega (arith, id-lt p v) }
 
     -- ---- the order
@@ -127,7 +127,7 @@ module _ (T L H : List ℕ) (n m : ℕ) (name : ℕ → List ℕ) where
     unfolding merged
     order-merged = order-is RESULT-GROUPS
 
-    pub order-of : (O : List ℕ) → 4 * m ≤ length O → wordsIn O (length (orderIn T L H m RESULT-GROUPS)) ≡ orderIn T L H m RESULT-GROUPS → OrderOf s O
+    pub order-of : (O : List ℕ) → 2 * m ≤ length O → halvesIn O (length (orderIn T L H m RESULT-GROUPS)) ≡ orderIn T L H m RESULT-GROUPS → OrderOf s O
     unfolding mergedCount
     order-of O u e = record { long = omega (arith, merged-few s, long-is); is = rw order-merged at e }
 
@@ -148,13 +148,13 @@ module _ (T L H : List ℕ) (n m : ℕ) (name : ℕ → List ℕ) where
     unfolding numberAt
     number-at-is p u =
         rw (long-is, ← h .is p u)
-        (ap (λ (x : ℕ). x + 1) (place-same (holdsIn H) (isMerged s) (resultGroupIn T L) (groupAtPosition s) m holder-is (λ q v t. result-group-is q v) (wordIn H p) (held-word p u) (holds-self H (wordIn H p) (holders-first .itself p u))))
+        (ap (λ (x : ℕ). x + 1) (place-same (holdsIn H) (isMerged s) (resultGroupIn T L) (groupAtPosition s) m holder-is (λ q v t. result-group-is q v) (halfIn H p) (held-word p u) (holds-self H (halfIn H p) (holders-first .itself p u))))
 
     number-taken : (i : ℕ) → Taken s i → numberBy T L H m i m ≡ numberOf s i
     unfolding numberOf
     number-taken i t =
         let u : position s i < m = rw (← long-is) (position-lt s i t) in
-        let e : wordIn L (position s i) ≡ i = list-at s L m l (position s i) u ∙ listed-position s i t in
+        let e : halfIn L (position s i) ≡ i = list-at s L m l (position s i) u ∙ listed-position s i t in
         ap (λ (j : ℕ). numberBy T L H m j m) (sym e) ∙ by-position T L H m holders-first (position s i) m u (omega arith) ∙ number-at-is (position s i) u
 
     number-left : (i : ℕ) → s .taken i ≡ false → numberBy T L H m i m ≡ 0
@@ -163,7 +163,7 @@ module _ (T L H : List ℕ) (n m : ℕ) (name : ℕ → List ℕ) where
     number-is : (i : ℕ) → i < s .many → numberBy T L H m i m ≡ cond (s .taken i) (numberOf s i) 0
     number-is i u = by-test (s .taken i) (λ t. rw t (number-taken i (u, t))) (λ f. rw f (number-left i f))
 
-    pub numbers-of : (N : List ℕ) → 4 * n ≤ length N → IdsNumbered T L H m m N → NumbersOf s N
+    pub numbers-of : (N : List ℕ) → 2 * n ≤ length N → IdsNumbered T L H m m N → NumbersOf s N
     numbers-of N u w = record { long = rw many-is u; is = λ i v. w .word i (omega (arith, many-is)) ∙ number-is i v }
 
 -- ---- candidates that agree have one order and one number each
@@ -192,15 +192,15 @@ module _ (s : Candidates) (O : List ℕ) (w : OrderOf s O) (k : ℕ) (a : 1 ≤ 
   unfolding mergedCount
   below = omega arith
 
-  entry-word : getD (merged s) (k - 1) 0 ≡ wordIn O (k - 1)
-  unfolding wordsIn
-  entry-word = ap (λ (x : List ℕ). getD x (k - 1) 0) (sym (w .is)) ∙ select-all-at (wordIn O) (k - 1) (length (merged s)) 0 below
+  entry-word : getD (merged s) (k - 1) 0 ≡ halfIn O (k - 1)
+  unfolding halvesIn
+  entry-word = ap (λ (x : List ℕ). getD x (k - 1) 0) (sym (w .is)) ∙ select-all-at (halfIn O) (k - 1) (length (merged s)) 0 below
 
-  pub entry-is : mergedAt s k ≡ listedAt s (wordIn O (k - 1))
+  pub entry-is : mergedAt s k ≡ listedAt s (halfIn O (k - 1))
   unfolding mergedAt
   entry-is = ap (listedAt s) entry-word
 
-  pub entry-lt : wordIn O (k - 1) < length (listed s)
+  pub entry-lt : halfIn O (k - 1) < length (listed s)
   unfolding merged
   entry-lt =
       let r = stands-at (isMerged s) (groupAtPosition s) (length (listed s)) RESULT-GROUPS (k - 1) below in
@@ -214,12 +214,12 @@ module _ (s : Candidates) (N : List ℕ) (w : NumbersOf s N) (from many k : ℕ)
   new-is = by-lt k many
       (λ l. new-in N from many k l ∙ by-test (s .taken (from + k))
       (λ t.
-      let e : wordIn N (from + k) ≡ numberOf s (from + k) = w .is (from + k) (omega arith) ∙ rw t in
+      let e : halfIn N (from + k) ≡ numberOf s (from + k) = w .is (from + k) (omega arith) ∙ rw t in
       let g = number-in s (from + k) (omega arith, t) .0 in
       rw (lt-ltb k many l, t, e) (symbol-some (numberOf s (from + k)) (record { 0 = numberOf s (from + k) }) (λ z. absurd (omega arith)) refl))
       (λ f.
-      let e : wordIn N (from + k) ≡ 0 = w .is (from + k) (omega arith) ∙ rw f in
-      rw (lt-ltb k many l, f) (symbol-none (wordIn N (from + k)) e)))
+      let e : halfIn N (from + k) ≡ 0 = w .is (from + k) (omega arith) ∙ rw f in
+      rw (lt-ltb k many l, f) (symbol-none (halfIn N (from + k)) e)))
       (λ l. rw (le-ltb k many l) (new-past N from many k l))
 
 -- the two cases of a symbol, told apart

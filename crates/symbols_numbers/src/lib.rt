@@ -6,7 +6,7 @@ ghost use Prim.Native.Nat.{_+_, _*_, _^_, _≤_, _<_};
 ghost use lib.ListN.{length};
 ghost use Rattle.base_scope.specs.Limits.{ID_LIMIT};
 ghost use Rattle.symbols_merge.specs.Merged.{RESULT-GROUPS, LOCAL-GROUPS};
-ghost use Rattle.symbols_rows.specs.Rows.{wordIn, wordsIn, resultGroupIn};
+ghost use Rattle.symbols_rows.specs.Rows.{halfIn, halvesIn, resultGroupIn};
 ghost use Rattle.symbols_rows.specs.Steps.{Position};
 ghost use Rattle.symbols_numbers.specs.Numbers.{bindingGroup, holdsIn, Tables, HoldersFirst, IdRoom, countBehind, OrderedAt, numberOn, NumberRoom, NumberedAt, orderIn, groupCounts, groupStarts, IdsNumbered, newSymbol, newIn};
 use base_fields::ByteOrder;
@@ -57,15 +57,15 @@ fn result_group(rows: &[u8], list: &[u8], p: usize) -> usize
 
 // Whether position p holds its name.
 fn is_holder(holders: &[u8], p: usize) -> bool
-    requires { ⌜ 4 * p + 4 ≤ length (now holders) ⌝ }
+    requires { ⌜ 2 * p + 2 ≤ length (now holders) ⌝ }
     ensures { λ r. ⌜ r ≡ holdsIn (now (holders .entry)) p ⌝ }
 {
-    symbols_rows::word_at(holders, p) == p
+    symbols_rows::half_at(holders, p) == p
 }
 
 // How many of a group there are behind position p, if `held` come before it.
 fn count_behind(holders: &[u8], p: usize, held: usize) -> usize
-    requires { ⌜ (4 * p + 4 ≤ length (now holders)) × (held ≤ ID_LIMIT) ⌝ }
+    requires { ⌜ (2 * p + 2 ≤ length (now holders)) × (held ≤ ID_LIMIT) ⌝ }
     ensures { λ r. ⌜ r ≡ countBehind (now (holders .entry)) p held ⌝ }
 {
     if is_holder(holders, p) {
@@ -104,11 +104,11 @@ pub fn group_starts(rows: &[u8], list: &[u8], holders: &[u8], m: usize) -> [usiz
 
 // Puts position p at `place` of the order, where it holds its name. Answers where the next of its group goes.
 fn order_position(holders: &[u8], p: usize, place: usize, order: &mut [u8]) -> usize
-    requires { ⌜ (4 * p + 4 ≤ length (now holders)) × (p < ID_LIMIT) × (holdsIn (now holders) p ≡ true → 4 * place + 4 ≤ length (now order)) × (place ≤ ID_LIMIT) ⌝ }
+    requires { ⌜ (2 * p + 2 ≤ length (now holders)) × (p < ID_LIMIT) × (holdsIn (now holders) p ≡ true → 2 * place + 2 ≤ length (now order)) × (place ≤ ID_LIMIT) ⌝ }
     ensures { λ r. ⌜ OrderedAt (now (holders .entry)) p place r (now (order .entry)) (now (order .exit)) ⌝ }
 {
     if is_holder(holders, p) {
-        base_fields::write32(ByteOrder::Big, order, 4 * place, p as u32);
+        base_fields::write16(ByteOrder::Big, order, 2 * place, p as u32);
         return place + 1;
     }
     place
@@ -123,8 +123,8 @@ pub fn order_positions(
     starts: [usize; STARTS],
     order: &mut [u8],
 )
-    requires { ⌜ Tables (now rows) (now list) (now holders) m × (starts ≡ groupStarts (now rows) (now list) (now holders) m) × (4 * m ≤ length (now order)) ⌝ }
-    ensures { λ _. ⌜ wordsIn (now (order .exit)) (length (orderIn (now (rows .entry)) (now (list .entry)) (now (holders .entry)) m RESULT-GROUPS))
+    requires { ⌜ Tables (now rows) (now list) (now holders) m × (starts ≡ groupStarts (now rows) (now list) (now holders) m) × (2 * m ≤ length (now order)) ⌝ }
+    ensures { λ _. ⌜ halvesIn (now (order .exit)) (length (orderIn (now (rows .entry)) (now (list .entry)) (now (holders .entry)) m RESULT-GROUPS))
         ≡ orderIn (now (rows .entry)) (now (list .entry)) (now (holders .entry)) m RESULT-GROUPS ⌝ }
 {
     let mut next = starts;
@@ -146,15 +146,15 @@ fn entry_of(place: usize) -> u32
 
 // The number of position p: that of its place where it holds its name, else that of its holder's id, which stands in the table.
 fn number_at(list: &[u8], holders: &[u8], p: usize, place: usize, numbers: &[u8]) -> u32
-    requires { ⌜ (4 * p + 4 ≤ length (now holders)) × (place ≤ ID_LIMIT) × (4 * wordIn (now holders) p + 4 ≤ length (now list))
-        × (4 * wordIn (now list) (wordIn (now holders) p) + 4 ≤ length (now numbers)) ⌝ }
-    ensures { λ r. ⌜ r ≡ numberOn (now (list .entry)) (now (holders .entry)) p place (now (numbers .entry)) ⌝ }
+    requires { ⌜ (2 * p + 2 ≤ length (now holders)) × (place ≤ ID_LIMIT) × (2 * halfIn (now holders) p + 2 ≤ length (now list))
+        × (2 * halfIn (now list) (halfIn (now holders) p) + 2 ≤ length (now numbers)) ⌝ }
+    ensures { λ r. ⌜ (r ≡ numberOn (now (list .entry)) (now (holders .entry)) p place (now (numbers .entry))) × (r < 2 ^ 16) ⌝ }
 {
-    let holder = symbols_rows::word_at(holders, p);
+    let holder = symbols_rows::half_at(holders, p);
     if holder == p {
         return entry_of(place);
     }
-    symbols_rows::word_at(numbers, symbols_rows::word_at(list, holder)) as u32
+    symbols_rows::half_at(numbers, symbols_rows::half_at(list, holder)) as u32
 }
 
 // Numbers the id at position p. Answers where the next of its group goes.
@@ -163,10 +163,10 @@ fn number_position(list: &[u8], holders: &[u8], p: usize, place: usize, numbers:
     ensures { λ r. ⌜ NumberedAt (now (list .entry)) (now (holders .entry)) p place r (now (numbers .entry)) (now (numbers .exit)) ⌝ }
 {
     let number = number_at(list, holders, p, place, numbers);
-    base_fields::write32(
+    base_fields::write16(
         ByteOrder::Big,
         numbers,
-        4 * symbols_rows::word_at(list, p),
+        2 * symbols_rows::half_at(list, p),
         number,
     );
     count_behind(holders, p, place)
@@ -208,24 +208,24 @@ fn new_symbol(number: usize) -> NewSymbol
 
 // What C's symbol k becomes: C has `count` symbols, and their ids are their indices.
 pub fn new_of_c(numbers: &[u8], count: usize, k: CompiledSymbol) -> NewSymbol
-    requires { ⌜ 4 * count ≤ length (now numbers) ⌝ }
+    requires { ⌜ 2 * count ≤ length (now numbers) ⌝ }
     ensures { λ r. ⌜ r ≡ newIn (now (numbers .entry)) 0 count (k .0) ⌝ }
 {
     let i = k.0 as usize;
     if i < count {
-        return new_symbol(symbols_rows::word_at(numbers, i));
+        return new_symbol(symbols_rows::half_at(numbers, i));
     }
     NewSymbol::Gone
 }
 
 // What A's symbol k becomes: A has `count` symbols, and their ids run from `first` on.
 pub fn new_of_a(numbers: &[u8], first: usize, count: usize, k: AssembledSymbol) -> NewSymbol
-    requires { ⌜ 4 * (first + count) ≤ length (now numbers) ⌝ }
+    requires { ⌜ 2 * (first + count) ≤ length (now numbers) ⌝ }
     ensures { λ r. ⌜ r ≡ newIn (now (numbers .entry)) first count (k .0) ⌝ }
 {
     let i = k.0 as usize;
     if i < count {
-        return new_symbol(symbols_rows::word_at(numbers, first + i));
+        return new_symbol(symbols_rows::half_at(numbers, first + i));
     }
     NewSymbol::Gone
 }

@@ -17,7 +17,7 @@ use Rattle.base_answers.specs.Answers.{NONE}
 use Rattle.base_answers.specs.Verdicts.{findingVerdict}
 use Rattle.base_answers.proofs.Verdicts.{also-passed, also-refused}
 use Rattle.symbols_rows.specs.declared.IdRow.{IdRow}
-use Rattle.symbols_rows.specs.Rows.{idUnnamed, idBinding, idSection, idValue, idRow, wordIn, looseIn, elsewhereIn}
+use Rattle.symbols_rows.specs.Rows.{idUnnamed, idBinding, idSection, idValue, idRow, halfIn, looseIn, elsewhereIn}
 use Rattle.symbols_rows.specs.Steps.{verdictIn}
 
 -- ---- a search
@@ -45,26 +45,26 @@ and-on : (u : Bool) → (u && true) ≡ u
 and-on true = refl
 and-on false = refl
 
-module _ (T L : List ℕ) (p : ℕ) (row : IdRow) (is : row ≡ idRow T (wordIn L p)) where
-  row-binding : idBinding T (wordIn L p) ≡ row .binding
+module _ (T L : List ℕ) (p : ℕ) (row : IdRow) (is : row ≡ idRow T (halfIn L p)) where
+  row-binding : idBinding T (halfIn L p) ≡ row .binding
   unfolding idRow
   row-binding = sym (ap (λ (r : IdRow). r .binding) is)
 
-  row-section : idSection T (wordIn L p) ≡ row .section
+  row-section : idSection T (halfIn L p) ≡ row .section
   unfolding idRow
   row-section = sym (ap (λ (r : IdRow). r .section) is)
 
-  row-value : idValue T (wordIn L p) ≡ row .value
+  row-value : idValue T (halfIn L p) ≡ row .value
   unfolding idRow
   row-value = sym (ap (λ (r : IdRow). r .value) is)
 
-  row-unnamed : idUnnamed T (wordIn L p) ≡ row .unnamed
+  row-unnamed : idUnnamed T (halfIn L p) ≡ row .unnamed
   unfolding idRow
   row-unnamed = sym (ap (λ (r : IdRow). r .unnamed) is)
 
   pub loose-local : row .binding ≡ STB_LOCAL → eqb (row .section) SHN_UNDEF ≡ looseIn T L p
   unfolding looseIn
-  loose-local e = rw (row-binding, row-section, eq-eqb _ _ e) (sym (or-off (eqb (row .section) SHN_UNDEF) (idUnnamed T (wordIn L p))))
+  loose-local e = rw (row-binding, row-section, eq-eqb _ _ e) (sym (or-off (eqb (row .section) SHN_UNDEF) (idUnnamed T (halfIn L p))))
 
   pub loose-other : (row .binding ≡ STB_LOCAL → ⊥) → row .unnamed ≡ looseIn T L p
   unfolding looseIn
@@ -72,7 +72,7 @@ module _ (T L : List ℕ) (p : ℕ) (row : IdRow) (is : row ≡ idRow T (wordIn 
 
 -- ---- 19
 
-module _ (T L H : List ℕ) (p q : ℕ) (row held : IdRow) (is : row ≡ idRow T (wordIn L p)) (holder : held ≡ idRow T (wordIn L q)) (at : q ≡ wordIn H p) where
+module _ (T L H : List ℕ) (p q : ℕ) (row held : IdRow) (is : row ≡ idRow T (halfIn L p)) (holder : held ≡ idRow T (halfIn L q)) (at : q ≡ halfIn H p) where
   abbrev Place : Bool
   Place = not (eqb (row .section) SHN_UNDEF) && not (eqb (row .section) (held .section) && eqb (row .value) (held .value))
 

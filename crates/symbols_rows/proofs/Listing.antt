@@ -27,29 +27,29 @@ use Rattle.symbols_rows.specs.Steps.{sectionGroup, inList, idsOf, idsLis
 -- ---- ids written
 
 abbrev bytes : List ℕ → List ℕ
-bytes ids = flat (encoded Big 4) ids
+bytes ids = flat (encoded Big 2) ids
 
-length-bytes : (ids : List ℕ) → length (bytes ids) ≡ 4 * length ids
-length-bytes ids = length-flat (encoded Big 4) 4 (length-encoded Big 4) ids
+length-bytes : (ids : List ℕ) → length (bytes ids) ≡ 2 * length ids
+length-bytes ids = length-flat (encoded Big 2) 2 (length-encoded Big 2) ids
 
 pub listing-none : (m : ℕ) (a : List ℕ) → Listing [] m m a a
-listing-none m a = record { many = omega arith; words = sym (ap (spliced a (4 * m)) (flat-none (encoded Big 4)) ∙ spliced-nil a (4 * m)) }
+listing-none m a = record { many = omega arith; words = sym (ap (spliced a (2 * m)) (flat-none (encoded Big 2)) ∙ spliced-nil a (2 * m)) }
 
-pub listing-one : (i m : ℕ) (a b : List ℕ) → b ≡ spliced a (4 * m) (encoded Big 4 i) → Listing (i ∷ []) m (m + 1) a b
-listing-one i m a b e = record { many = omega arith; words = e ∙ ap (spliced a (4 * m)) (sym (flat-one (encoded Big 4) i)) }
+pub listing-one : (i m : ℕ) (a b : List ℕ) → b ≡ spliced a (2 * m) (encoded Big 2 i) → Listing (i ∷ []) m (m + 1) a b
+listing-one i m a b e = record { many = omega arith; words = e ∙ ap (spliced a (2 * m)) (sym (flat-one (encoded Big 2) i)) }
 
 -- some ids, then others
-pub listing-then : (xs ys : List ℕ) (m r q : ℕ) (a b c : List ℕ) → 4 * (m + length xs + length ys) ≤ length a → Listing xs m r a b → Listing ys r q b c → Listing (xs ++ ys) m q a c
+pub listing-then : (xs ys : List ℕ) (m r q : ℕ) (a b c : List ℕ) → 2 * (m + length xs + length ys) ≤ length a → Listing xs m r a b → Listing ys r q b c → Listing (xs ++ ys) m q a c
 listing-then xs ys m r q a b c h f g =
-    let e : 4 * r ≡ 4 * m + length (bytes xs) = omega (arith, f .many, length-bytes xs) in
-    let room : 4 * r + length (bytes ys) ≤ length a = omega (arith, f .many, length-bytes ys) in
+    let e : 2 * r ≡ 2 * m + length (bytes xs) = omega (arith, f .many, length-bytes xs) in
+    let room : 2 * r + length (bytes ys) ≤ length a = omega (arith, f .many, length-bytes ys) in
     record {
       many = rw length-append (omega (arith, f .many, g .many));
       words =
           g .words
-          ∙ ap (λ (x : List ℕ). spliced x (4 * r) (bytes ys)) (f .words)
-          ∙ spliced-then a (4 * m) (bytes xs) (bytes ys) (4 * r) e room
-          ∙ ap (spliced a (4 * m)) (sym (flat-append (encoded Big 4) xs ys));
+          ∙ ap (λ (x : List ℕ). spliced x (2 * r) (bytes ys)) (f .words)
+          ∙ spliced-then a (2 * m) (bytes xs) (bytes ys) (2 * r) e room
+          ∙ ap (spliced a (2 * m)) (sym (flat-append (encoded Big 2) xs ys));
     }
 
 -- ---- the ids of a group
@@ -75,7 +75,7 @@ module _ (T : List ℕ) (n g : ℕ) where
   so-far-mono i k h = rw (select-length (inList T g) (λ i. i) i, select-length (inList T g) (λ i. i) k) (count-mono (inList T g) i k h)
 
   -- the room that all ids of the group need is there for those up to i
-  room-next : (m i w : ℕ) → 4 * (m + length (idsOf T n g)) ≤ w → i < n → 4 * (m + length (soFar i) + length (turn i)) ≤ w
+  room-next : (m i w : ℕ) → 2 * (m + length (idsOf T n g)) ≤ w → i < n → 2 * (m + length (soFar i) + length (turn i)) ≤ w
   room-next m i w h l =
       let e : length (idsOf T n g) ≡ length (soFar n) = ap length ids-all in
       let f : length (soFar (i + 1)) ≡ length (soFar i) + length (turn i) = ap length (so-far-next i) ∙ length-append (soFar i) (turn i) in
@@ -95,10 +95,10 @@ module _ (T : List ℕ) (n g : ℕ) where
 
   module _ (m : ℕ) (before : List ℕ) (i r : ℕ) (after : List ℕ) (w : Appending m before i r after) where
     -- an id that is written has room
-    pub appending-room : 4 * (m + length (idsOf T n g)) ≤ length before → i < n → inList T g i ≡ true → 4 * r + 4 ≤ length after
+    pub appending-room : 2 * (m + length (idsOf T n g)) ≤ length before → i < n → inList T g i ≡ true → 2 * r + 2 ≤ length after
     appending-room h l t = omega (arith, room-next m i (length before) h l, turn-one i t, w .listing .many, w .long)
 
-    pub appending-next : (q : ℕ) (last : List ℕ) → 4 * (m + length (idsOf T n g)) ≤ length before → i < n → length last ≡ length after
+    pub appending-next : (q : ℕ) (last : List ℕ) → 2 * (m + length (idsOf T n g)) ≤ length before → i < n → length last ≡ length after
         → Listing (turn i) r q after last → Appending m before (i + 1) q last
     appending-next q last h l e t = record {
       few = omega arith;
@@ -113,7 +113,7 @@ module _ (T : List ℕ) (n g : ℕ) where
         rw ids-all f
 
 -- the ways of a turn
-pub turn-yes : (b : Bool) (i m : ℕ) (a c : List ℕ) → b ≡ true → c ≡ spliced a (4 * m) (encoded Big 4 i) → Listing (pickList b (i ∷ []) []) m (m + 1) a c
+pub turn-yes : (b : Bool) (i m : ℕ) (a c : List ℕ) → b ≡ true → c ≡ spliced a (2 * m) (encoded Big 2 i) → Listing (pickList b (i ∷ []) []) m (m + 1) a c
 turn-yes b i m a c t e = rw t (listing-one i m a c e)
 
 pub turn-no : (b : Bool) (i m : ℕ) (a : List ℕ) → b ≡ false → Listing (pickList b (i ∷ []) []) m m a a
@@ -160,14 +160,14 @@ module _ (T : List ℕ) (n : ℕ) where
   listed-few = rw (listed-groups (λ i. []), length-append) groups-few
 
   -- both groups, one behind the other
-  pub list-both : (r q : ℕ) (a b c : List ℕ) → 4 * n ≤ length a → Listing (idsOf T n 0) 0 r a b → Listing (idsOf T n 1) r q b c → Listing (idsListed T n) 0 q a c
+  pub list-both : (r q : ℕ) (a b c : List ℕ) → 2 * n ≤ length a → Listing (idsOf T n 0) 0 r a b → Listing (idsOf T n 1) r q b c → Listing (idsListed T n) 0 q a c
   unfolding idsListed
   list-both r q a b c h f g = rw (listed-groups (λ i. []))
       (listing-then (idsOf T n 0) (idsOf T n 1) 0 r q a b c (omega (arith, groups-few)) f g)
 
   -- the first has room, and the second behind it
-  pub first-room : (a : List ℕ) → 4 * n ≤ length a → 4 * (0 + length (idsOf T n 0)) ≤ length a
+  pub first-room : (a : List ℕ) → 2 * n ≤ length a → 2 * (0 + length (idsOf T n 0)) ≤ length a
   first-room a h = omega (arith, groups-few)
 
-  pub second-room : (r : ℕ) (a b : List ℕ) → 4 * n ≤ length a → length b ≡ length a → Listing (idsOf T n 0) 0 r a b → 4 * (r + length (idsOf T n 1)) ≤ length b
+  pub second-room : (r : ℕ) (a b : List ℕ) → 2 * n ≤ length a → length b ≡ length a → Listing (idsOf T n 0) 0 r a b → 2 * (r + length (idsOf T n 1)) ≤ length b
   second-room r a b h e f = omega (arith, groups-few, f .many)

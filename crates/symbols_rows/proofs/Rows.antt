@@ -19,7 +19,7 @@ use Rattle.base_fields.specs.Numbers.{number, encoded}
 use Rattle.base_fields.proofs.Numbers.{length-encoded, within-number, number-outside}
 use Rattle.base_scope.specs.Limits.{ID_ROW}
 use Rattle.symbols_rows.specs.declared.IdRow.{IdRow}
-use Rattle.symbols_rows.specs.Rows.{kindWord, idKind, idTaken, idUnnamed, idGpDisp, idBinding, idSection, idValue, idRow, idRowBytes, wordIn, wordsIn}
+use Rattle.symbols_rows.specs.Rows.{kindWord, idKind, idTaken, idUnnamed, idGpDisp, idBinding, idSection, idValue, idRow, idRowBytes, halfIn, halvesIn}
 
 -- ---- the kind word
 
@@ -148,9 +148,9 @@ module _ (f : ℕ → IdRow) where
 -- ---- words
 
 -- words that stand at the front of a table are read back
-pub words-read : (xs T : List ℕ) → Within (flat (encoded Big 4) xs) 0 T → wordsIn T (length xs) ≡ xs
-unfolding wordsIn wordIn
-words-read xs T w = select-all-is xs (wordIn T) 0 (λ p h.
-    within-number Big 3 (getD xs p 0) (4 * p) T
-    (within-at (encoded Big 4 (getD xs p 0)) T (0 + 4 * p) (4 * p) (omega arith)
-    (within-within (encoded Big 4 (getD xs p 0)) (flat (encoded Big 4) xs) T 0 (4 * p) (within-flat (encoded Big 4) 4 (length-encoded Big 4) xs p 0 h) w)))
+pub words-read : (xs T : List ℕ) → Within (flat (encoded Big 2) xs) 0 T → halvesIn T (length xs) ≡ xs
+unfolding halvesIn halfIn
+words-read xs T w = select-all-is xs (halfIn T) 0 (λ p h.
+    within-number Big 1 (getD xs p 0) (2 * p) T
+    (within-at (encoded Big 2 (getD xs p 0)) T (0 + 2 * p) (2 * p) (omega arith)
+    (within-within (encoded Big 2 (getD xs p 0)) (flat (encoded Big 2) xs) T 0 (2 * p) (within-flat (encoded Big 2) 2 (length-encoded Big 2) xs p 0 h) w)))

@@ -28,7 +28,7 @@ use Rattle.symbols_merge.proofs.Names.{alike-parts}
 use Rattle.symbols_merge.proofs.Merged.{listed-taken}
 use Rattle.symbols_merge.proofs.Agree.{Agree}
 use Rattle.symbols_rows.specs.declared.IdRow.{IdRow}
-use Rattle.symbols_rows.specs.Rows.{idTaken, idUnnamed, idBinding, idSection, candidatesIn, RowsOf, wordIn, wordsIn, ListOf, HoldersOf, looseIn, elsewhereIn}
+use Rattle.symbols_rows.specs.Rows.{idTaken, idUnnamed, idBinding, idSection, candidatesIn, RowsOf, halfIn, halvesIn, ListOf, HoldersOf, looseIn, elsewhereIn}
 use Rattle.symbols_rows.specs.Steps.{idsListed, Listing, Positions, Holders, verdictIn}
 use Rattle.symbols_rows.proofs.Rows.{row-fields, Filled, words-read}
 use Rattle.symbols_rows.proofs.Listing.{listed-names, listed-few}
@@ -37,36 +37,36 @@ use Rattle.symbols_rows.proofs.Listing.{listed-names, listed-few}
 
 module _ (s : Candidates) (L : List ℕ) (m : ℕ) (l : ListOf s L m) where
   pub list-long : m ≡ length (listed s)
-  unfolding wordsIn
-  list-long = sym (select-all-length (wordIn L) m) ∙ ap length (l .is)
+  unfolding halvesIn
+  list-long = sym (select-all-length (halfIn L) m) ∙ ap length (l .is)
 
-  pub list-at : (p : ℕ) → p < m → wordIn L p ≡ listedAt s p
-  unfolding wordsIn listedAt
-  list-at p h = sym (select-all-at (wordIn L) p m 0 h) ∙ ap (λ (x : List ℕ). getD x p 0) (l .is)
+  pub list-at : (p : ℕ) → p < m → halfIn L p ≡ listedAt s p
+  unfolding halvesIn listedAt
+  list-at p h = sym (select-all-at (halfIn L) p m 0 h) ∙ ap (λ (x : List ℕ). getD x p 0) (l .is)
 
-  pub list-taken : (p : ℕ) → p < m → (wordIn L p < s .many) × (s .taken (wordIn L p) ≡ true)
+  pub list-taken : (p : ℕ) → p < m → (halfIn L p < s .many) × (s .taken (halfIn L p) ≡ true)
   list-taken p h = rw (list-at p h) (listed-taken s p (omega (arith, list-long)))
 
   -- each holder is a position
-  pub holder-in : (H : List ℕ) → HoldersOf s H m → (p : ℕ) → p < m → wordIn H p < m
+  pub holder-in : (H : List ℕ) → HoldersOf s H m → (p : ℕ) → p < m → halfIn H p < m
   unfolding holderOf
   holder-in H h p u =
-      let e : wordIn H p ≡ holderOf s p = h .is p u in
+      let e : halfIn H p ≡ holderOf s p = h .is p u in
       omega (arith, list-long, holder-lt (isAlike s) (length (listed s)) (alike-parts s) p (omega (arith, list-long)))
 
 -- the list that listing leaves
-module _ (T : List ℕ) (n r : ℕ) (before after : List ℕ) (room : 4 * n ≤ length before) (f : Listing (idsListed T n) 0 r before after) where
+module _ (T : List ℕ) (n r : ℕ) (before after : List ℕ) (room : 2 * n ≤ length before) (f : Listing (idsListed T n) 0 r before after) where
   abbrev bytes : List ℕ
-  bytes = flat (encoded Big 4) (idsListed T n)
+  bytes = flat (encoded Big 2) (idsListed T n)
 
-  bytes-fit : 4 * 0 + length bytes ≤ length before
-  bytes-fit = omega (arith, length-flat (encoded Big 4) 4 (length-encoded Big 4) (idsListed T n), listed-few T n)
+  bytes-fit : 2 * 0 + length bytes ≤ length before
+  bytes-fit = omega (arith, length-flat (encoded Big 2) 2 (length-encoded Big 2) (idsListed T n), listed-few T n)
 
   at-front : Within bytes 0 after
-  at-front = rw (f .words) (within-spliced before (4 * 0) bytes bytes-fit)
+  at-front = rw (f .words) (within-spliced before (2 * 0) bytes bytes-fit)
 
   after-long : length after ≡ length before
-  after-long = ap length (f .words) ∙ length-spliced before (4 * 0) bytes bytes-fit
+  after-long = ap length (f .words) ∙ length-spliced before (2 * 0) bytes bytes-fit
 
   many : r ≡ length (idsListed T n)
   many = omega (arith, f .many)
@@ -75,7 +75,7 @@ module _ (T : List ℕ) (n r : ℕ) (before after : List ℕ) (room : 4 * n ≤ 
   unfolding idsListed
   list-of name = record {
     long = omega (arith, after-long, many, listed-few T n);
-    is = ap (wordsIn after) many ∙ words-read (idsListed T n) after at-front ∙ listed-names T n (λ i. []) name;
+    is = ap (halvesIn after) many ∙ words-read (idsListed T n) after at-front ∙ listed-names T n (λ i. []) name;
   }
 
 -- ---- rows of names
@@ -129,11 +129,11 @@ module _ (T : List ℕ) (n : ℕ) (name : ℕ → List ℕ) (R : RowsOf T n name
   s = candidatesIn T n name
 
   module _ (L : List ℕ) (m : ℕ) (l : ListOf s L m) where
-    id-lt : (p : ℕ) → p < m → wordIn L p < n
+    id-lt : (p : ℕ) → p < m → halfIn L p < n
     unfolding candidatesIn
     id-lt p h = list-taken s L m l p h .0
 
-    pub listed-row : (p : ℕ) → p < m → idTaken T (wordIn L p) ≡ true
+    pub listed-row : (p : ℕ) → p < m → idTaken T (halfIn L p) ≡ true
     unfolding candidatesIn
     listed-row p h = list-taken s L m l p h .1
 
@@ -141,14 +141,14 @@ module _ (T : List ℕ) (n : ℕ) (name : ℕ → List ℕ) (R : RowsOf T n name
     positions-of p h = record { inside = omega (arith, l .long); row = omega (arith, id-lt p h, R .long) }
 
     pub holders-of : (H : List ℕ) → HoldersOf s H m → Holders T L H m
-    holders-of H h p u = record { own = positions-of p u; inside = omega (arith, h .long); holder = positions-of (wordIn H p) (holder-in s L m l H h p u) }
+    holders-of H h p u = record { own = positions-of p u; inside = omega (arith, h .long); holder = positions-of (halfIn H p) (holder-in s L m l H h p u) }
 
     -- ---- 18
 
     pub loose-is : (p : ℕ) → p < m → looseIn T L p ≡ isLoose s p
     unfolding looseIn isLoose
     loose-is p h =
-        let u : idUnnamed T (listedAt s p) ≡ isUnnamed s (listedAt s p) = rw (← list-at s L m l p h) (R .unnamed (wordIn L p) (id-lt p h) (listed-row p h)) in
+        let u : idUnnamed T (listedAt s p) ≡ isUnnamed s (listedAt s p) = rw (← list-at s L m l p h) (R .unnamed (halfIn L p) (id-lt p h) (listed-row p h)) in
         rw (list-at s L m l p h, local-in T n name (listedAt s p), undefined-in T n name (listedAt s p), u)
 
     pub loose-found : foundBelow m (first (looseIn T L) 0 m) ≡ foundBelow (length (listed s)) (first (isLoose s) 0 (length (listed s)))
@@ -165,8 +165,8 @@ module _ (T : List ℕ) (n : ℕ) (name : ℕ → List ℕ) (L H : List ℕ) (m 
   pub elsewhere-is : (p : ℕ) → p < m → elsewhereIn T L H p ≡ isElsewhere c p
   unfolding elsewhereIn isElsewhere isDefined candidatesIn
   elsewhere-is p u =
-      let a : wordIn L p ≡ listedAt c p = list-at c L m l p u in
-      let b : wordIn L (wordIn H p) ≡ listedAt c (holderOf c p) = list-at c L m l (wordIn H p) (holder-in c L m l H h p u) ∙ ap (listedAt c) (h .is p u) in
+      let a : halfIn L p ≡ listedAt c p = list-at c L m l p u in
+      let b : halfIn L (halfIn H p) ≡ listedAt c (holderOf c p) = list-at c L m l (halfIn H p) (holder-in c L m l H h p u) ∙ ap (listedAt c) (h .is p u) in
       rw (a, b)
 
   pub elsewhere-found : foundBelow m (first (elsewhereIn T L H) 0 m) ≡ foundBelow (length (listed c)) (first (isElsewhere c) 0 (length (listed c)))

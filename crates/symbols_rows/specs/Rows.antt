@@ -72,38 +72,38 @@ module _ (T : List ℕ) where
 unfoldable pub idRowBytes : IdRow → List ℕ
 idRowBytes row = flat (encoded Big 4) (kindWord (row .taken) (row .unnamed) (row .«gp_disp») (row .binding) (row .section) ∷ row .value ∷ [])
 
--- word p of a table of words, and its first m words
-unfoldable pub wordIn : List ℕ → ℕ → ℕ
-wordIn L p = number Big 4 L (4 * p)
+-- number p of a table of two bytes for each, and its first m numbers
+unfoldable pub halfIn : List ℕ → ℕ → ℕ
+halfIn L p = number Big 2 L (2 * p)
 
-unfoldable pub wordsIn : List ℕ → ℕ → List ℕ
-wordsIn L m = select (λ p. true) (wordIn L) m
+unfoldable pub halvesIn : List ℕ → ℕ → List ℕ
+halvesIn L m = select (λ p. true) (halfIn L) m
 
 -- the list in hand: m positions
 pub record ListOf (s : Candidates) (L : List ℕ) (m : ℕ) : Type 0 where
-  pub long : 4 * m ≤ length L
-  pub is : wordsIn L m ≡ listed s
+  pub long : 2 * m ≤ length L
+  pub is : halvesIn L m ≡ listed s
 
 -- the holders in hand
 pub record HoldersOf (s : Candidates) (H : List ℕ) (m : ℕ) : Type 0 where
-  pub long : 4 * m ≤ length H
-  pub is : (p : ℕ) → p < m → wordIn H p ≡ holderOf s p
+  pub long : 2 * m ≤ length H
+  pub is : (p : ℕ) → p < m → halfIn H p ≡ holderOf s p
 
 -- at position p, by the tables
 module _ (T L : List ℕ) where
   -- 18
   unfoldable pub looseIn : ℕ → Bool
   looseIn p =
-      (eqb (idBinding T (wordIn L p)) STB_LOCAL && eqb (idSection T (wordIn L p)) SHN_UNDEF)
-      || (idUnnamed T (wordIn L p) && not (eqb (idBinding T (wordIn L p)) STB_LOCAL))
+      (eqb (idBinding T (halfIn L p)) STB_LOCAL && eqb (idSection T (halfIn L p)) SHN_UNDEF)
+      || (idUnnamed T (halfIn L p) && not (eqb (idBinding T (halfIn L p)) STB_LOCAL))
 
   -- the group in the result
   unfoldable pub resultGroupIn : ℕ → ℕ
-  resultGroupIn p = cond (eqb (idBinding T (wordIn L p)) STB_LOCAL) 0 2 + cond (idGpDisp T (wordIn L p)) 1 0
+  resultGroupIn p = cond (eqb (idBinding T (halfIn L p)) STB_LOCAL) 0 2 + cond (idGpDisp T (halfIn L p)) 1 0
 
   module _ (H : List ℕ) where
     -- 19
     unfoldable pub elsewhereIn : ℕ → Bool
     elsewhereIn p =
-        not (eqb (idSection T (wordIn L p)) SHN_UNDEF)
-        && not (eqb (idSection T (wordIn L p)) (idSection T (wordIn L (wordIn H p))) && eqb (idValue T (wordIn L p)) (idValue T (wordIn L (wordIn H p))))
+        not (eqb (idSection T (halfIn L p)) SHN_UNDEF)
+        && not (eqb (idSection T (halfIn L p)) (idSection T (halfIn L (halfIn H p))) && eqb (idValue T (halfIn L p)) (idValue T (halfIn L (halfIn H p))))

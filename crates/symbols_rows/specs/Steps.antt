@@ -17,7 +17,7 @@ use Rattle.base_answers.specs.declared.Verdict.{Verdict}
 use Rattle.base_answers.specs.Answers.{NONE}
 use Rattle.base_answers.specs.Verdicts.{also, findingVerdict}
 use Rattle.symbols_merge.specs.Listed.{listed}
-use Rattle.symbols_rows.specs.Rows.{idTaken, idSection, candidatesIn, wordIn, looseIn, elsewhereIn}
+use Rattle.symbols_rows.specs.Rows.{idTaken, idSection, candidatesIn, halfIn, looseIn, elsewhereIn}
 
 -- the group in the list of an id of this section
 unfoldable pub sectionGroup : ℕ → ℕ
@@ -35,21 +35,21 @@ module _ (T : List ℕ) where
   unfoldable pub idsListed : ℕ → List ℕ
   idsListed n = listed (candidatesIn T n (λ i. []))
 
--- the words of some ids written behind m words: r words stand there then
+-- some ids written behind m ids: r stand there then
 pub record Listing (ids : List ℕ) (m r : ℕ) (before after : List ℕ) : Type 0 where
   pub many : r ≡ m + length ids
-  pub words : after ≡ spliced before (4 * m) (flat (encoded Big 4) ids)
+  pub words : after ≡ spliced before (2 * m) (flat (encoded Big 2) ids)
 
 -- position p of the list is in hand, and so is the row of its id
 pub record Position (T L : List ℕ) (p : ℕ) : Type 0 where
-  pub inside : 4 * p + 4 ≤ length L
-  pub row : ID_ROW * wordIn L p + ID_ROW ≤ length T
+  pub inside : 2 * p + 2 ≤ length L
+  pub row : ID_ROW * halfIn L p + ID_ROW ≤ length T
 
 -- and so is its holder
 pub record Held (T L H : List ℕ) (p : ℕ) : Type 0 where
   pub own : Position T L p
-  pub inside : 4 * p + 4 ≤ length H
-  pub holder : Position T L (wordIn H p)
+  pub inside : 2 * p + 2 ≤ length H
+  pub holder : Position T L (halfIn H p)
 
 -- m positions in hand, and their holders
 abbrev pub Positions : List ℕ → List ℕ → ℕ → Type 0

@@ -9,7 +9,7 @@ ghost use Rattle.base_lists.specs.Ranges.{first, pickList};
 ghost use Rattle.base_lists.specs.Windows.{spliced};
 ghost use Rattle.base_scope.specs.Refusals.{foundBelow};
 ghost use Rattle.base_scope.specs.Limits.{ID_LIMIT, ID_ROW};
-ghost use Rattle.symbols_rows.specs.Rows.{kindWord, Fits, idRow, idRowBytes, wordIn, looseIn, elsewhereIn};
+ghost use Rattle.symbols_rows.specs.Rows.{kindWord, Fits, idRow, idRowBytes, halfIn, looseIn, elsewhereIn};
 ghost use Rattle.symbols_rows.specs.Steps.{sectionGroup, inList, idsOf, idsListed, Listing, Position, Held, Positions, Holders, verdictIn};
 use base_answers::Verdict;
 use base_fields::ByteOrder;
@@ -87,11 +87,11 @@ fn is_in_list(rows: &[u8], group: u32, i: usize) -> bool
 
 // Id i's turn in listing a group: it goes behind the m ids before it, where it is taken and of the group. Answers how many ids there are then.
 fn append_id(rows: &[u8], group: u32, i: usize, m: usize, list: &mut [u8]) -> usize
-    requires { ⌜ (ID_ROW * i + ID_ROW ≤ length (now rows)) × (i < ID_LIMIT) × (inList (now rows) group i ≡ true → 4 * m + 4 ≤ length (now list)) ⌝ }
+    requires { ⌜ (ID_ROW * i + ID_ROW ≤ length (now rows)) × (i < ID_LIMIT) × (inList (now rows) group i ≡ true → 2 * m + 2 ≤ length (now list)) ⌝ }
     ensures { λ r. ⌜ Listing (pickList (inList (now (rows .entry)) group i) (i ∷ []) []) m r (now (list .entry)) (now (list .exit)) ⌝ }
 {
     if is_in_list(rows, group, i) {
-        base_fields::write32(ByteOrder::Big, list, 4 * m, i as u32);
+        base_fields::write16(ByteOrder::Big, list, 2 * m, i as u32);
         return m + 1;
     }
     m
@@ -99,7 +99,7 @@ fn append_id(rows: &[u8], group: u32, i: usize, m: usize, list: &mut [u8]) -> us
 
 // Writes the ids of a group behind the m ids before them, and answers how many there are then.
 fn append_group(rows: &[u8], n: usize, group: u32, m: usize, list: &mut [u8]) -> usize
-    requires { ⌜ (n ≤ ID_LIMIT) × (ID_ROW * n ≤ length (now rows)) × (4 * (m + length (idsOf (now rows) n group)) ≤ length (now list)) ⌝ }
+    requires { ⌜ (n ≤ ID_LIMIT) × (ID_ROW * n ≤ length (now rows)) × (2 * (m + length (idsOf (now rows) n group)) ≤ length (now list)) ⌝ }
     ensures { λ r. ⌜ Listing (idsOf (now (rows .entry)) n group) m r (now (list .entry)) (now (list .exit)) ⌝ }
 {
     let mut r = m;
@@ -113,27 +113,27 @@ fn append_group(rows: &[u8], n: usize, group: u32, m: usize, list: &mut [u8]) ->
 
 // Writes the list of the ids of n rows, and answers how many it has.
 pub fn list_ids(rows: &[u8], n: usize, list: &mut [u8]) -> usize
-    requires { ⌜ (n ≤ ID_LIMIT) × (ID_ROW * n ≤ length (now rows)) × (4 * n ≤ length (now list)) ⌝ }
+    requires { ⌜ (n ≤ ID_LIMIT) × (ID_ROW * n ≤ length (now rows)) × (2 * n ≤ length (now list)) ⌝ }
     ensures { λ r. ⌜ Listing (idsListed (now (rows .entry)) n) 0 r (now (list .entry)) (now (list .exit)) ⌝ }
 {
     let defined = append_group(rows, n, 0, 0, list);
     append_group(rows, n, 1, defined, list)
 }
 
-// Word p of a table of words.
-pub fn word_at(words: &[u8], p: usize) -> usize
-    requires { ⌜ 4 * p + 4 ≤ length (now words) ⌝ }
-    ensures { λ r. ⌜ (r ≡ wordIn (now (words .entry)) p) × (r < 2 ^ 32) ⌝ }
+// Number p of a table of two bytes for each.
+pub fn half_at(halves: &[u8], p: usize) -> usize
+    requires { ⌜ 2 * p + 2 ≤ length (now halves) ⌝ }
+    ensures { λ r. ⌜ (r ≡ halfIn (now (halves .entry)) p) × (r < 2 ^ 16) ⌝ }
 {
-    base_fields::read32(ByteOrder::Big, words, 4 * p) as usize
+    base_fields::read16(ByteOrder::Big, halves, 2 * p) as usize
 }
 
 // The row of the id at position p.
 pub fn row_at(rows: &[u8], list: &[u8], p: usize) -> IdRow
     requires { ⌜ Position (now rows) (now list) p ⌝ }
-    ensures { λ r. ⌜ r ≡ idRow (now (rows .entry)) (wordIn (now (list .entry)) p) ⌝ }
+    ensures { λ r. ⌜ r ≡ idRow (now (rows .entry)) (halfIn (now (list .entry)) p) ⌝ }
 {
-    id_at(rows, word_at(list, p))
+    id_at(rows, half_at(list, p))
 }
 
 // Whether position p is local and undefined, or unnamed and not local.
@@ -169,7 +169,7 @@ fn is_elsewhere(rows: &[u8], list: &[u8], holders: &[u8], p: usize) -> bool
     ensures { λ r. ⌜ r ≡ elsewhereIn (now (rows .entry)) (now (list .entry)) (now (holders .entry)) p ⌝ }
 {
     let row = row_at(rows, list, p);
-    let held = row_at(rows, list, word_at(holders, p));
+    let held = row_at(rows, list, half_at(holders, p));
     if row.section == base_scope::SHN_UNDEF {
         return false;
     }

@@ -27,7 +27,7 @@ use Rattle.symbols_merge.specs.Merged.{RESULT-GROUPS}
 use Rattle.symbols_taken.specs.Code.{usedBytes, LateIn, takenIn}
 use Rattle.symbols_taken.proofs.Marks.{used-within}
 use Rattle.symbols_glabels.specs.Words.{glabelWord, Holds, GlabelsReady}
-use Rattle.symbols_rows.specs.Rows.{wordsIn, HoldersOf}
+use Rattle.symbols_rows.specs.Rows.{halvesIn, HoldersOf}
 use Rattle.symbols_rows.specs.Steps.{idsListed, Listing as IdsListing}
 use Rattle.symbols_holders.specs.Ready.{idCount, symbolsIn, HoldersReady}
 use Rattle.symbols_numbers.specs.Numbers.{Tables, IdRoom, orderIn, groupStarts, IdsNumbered}
@@ -133,7 +133,7 @@ module _ (C A : List ℕ) (f : Filling) (n : ℕ) (table tableAfter steps rows :
   ids-held : ID_ROW * idCount (f .sources) ≤ length (idsPart table)
   ids-held = omega (arith, part-long ROWS_AT ID_TABLE table (omega (arith, blocks)), ids-few C A (staticsPart steps) (lateStepPart steps) f (q .places))
 
-  pub ids-room : 4 * idCount (f .sources) ≤ length (lent from to steps)
+  pub ids-room : 2 * idCount (f .sources) ≤ length (lent from to steps)
   ids-room = omega (arith, list-long, ids-few C A (staticsPart steps) (lateStepPart steps) f (q .places))
 
   pub listed-of : (m : ℕ) (part : List ℕ) → length part ≡ length (lent from to steps) → IdsListing (idsListed rows n) 0 m (lent from to steps) part
@@ -149,7 +149,7 @@ module _ (C A : List ℕ) (f : Filling) (n : ℕ) (table tableAfter steps rows :
         keptSteps = put-kept LIST_AT POSITION_TABLE from to steps part (putBack from to steps part) starts ends (omega (arith, room)) same refl;
       }
 
-  pub list-ready : (n ≤ ID_LIMIT) × (ID_ROW * n ≤ length rows) × (4 * n ≤ length (lent from to steps))
+  pub list-ready : (n ≤ ID_LIMIT) × (ID_ROW * n ≤ length rows) × (2 * n ≤ length (lent from to steps))
   list-ready =
       let few = ids-few C A (staticsPart steps) (lateStepPart steps) f (q .places) in
       let l = ap length t ∙ filled .rows .long ∙ part-long ROWS_AT ID_TABLE table (omega (arith, blocks)) in
@@ -163,7 +163,7 @@ module _ (C A : List ℕ) (f : Filling) (m : ℕ) (table steps places index stat
   holders-long : length (lent from to places) ≡ POSITION_TABLE
   holders-long = ap length (part-lent HOLDERS_AT POSITION_TABLE from to places starts ends) ∙ part-long HOLDERS_AT POSITION_TABLE places (omega (arith, held .places-long))
 
-  pub hold-ready : HoldersReady (f .inputs .order) C A statics (f .sources) rows list m × Room ID_LIMIT index × (4 * m ≤ length (lent from to places))
+  pub hold-ready : HoldersReady (f .inputs .order) C A statics (f .sources) rows list m × Room ID_LIMIT index × (2 * m ≤ length (lent from to places))
   hold-ready =
       let few = ready-few (f .inputs .order) C A (staticsPart steps) (f .sources) (idsPart table) (listPart steps) m ready in
       (rw (u, t, l) ready, record { few = omega arith; long = omega (arith, held .index-long) }, omega (arith, holders-long, few))
@@ -184,10 +184,10 @@ module _ (T L H : List ℕ) (m from to : ℕ) (index : List ℕ) (room : INDEX_B
     order-long : length (lent from to index) ≡ POSITION_TABLE
     order-long = ap length (part-lent 0 POSITION_TABLE from to index starts ends) ∙ part-long 0 POSITION_TABLE index (omega (arith, room))
 
-    pub order-room : Tables T L H m → 4 * m ≤ length (lent from to index)
+    pub order-room : Tables T L H m → 2 * m ≤ length (lent from to index)
     order-room w = omega (arith, order-long, w .few)
 
-    pub order-of : (part : List ℕ) → length part ≡ length (lent from to index) → wordsIn part (length (orderIn T L H m RESULT-GROUPS)) ≡ orderIn T L H m RESULT-GROUPS
+    pub order-of : (part : List ℕ) → length part ≡ length (lent from to index) → halvesIn part (length (orderIn T L H m RESULT-GROUPS)) ≡ orderIn T L H m RESULT-GROUPS
         → OrderLeft T L H m (putBack from to index part)
     order-of part same w =
         let put = put-table 0 POSITION_TABLE from to index part (putBack from to index part) starts ends (omega (arith, room)) same refl in

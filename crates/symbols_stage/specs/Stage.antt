@@ -20,7 +20,7 @@ use Rattle.symbols_merge.specs.Candidates.{Candidates}
 use Rattle.symbols_merge.specs.Merged.{RESULT-GROUPS}
 use Rattle.symbols_taken.specs.Code.{usedBytes, takenIn}
 use Rattle.symbols_glabels.specs.Words.{glabelWord, Holds}
-use Rattle.symbols_rows.specs.Rows.{wordIn, wordsIn, HoldersOf}
+use Rattle.symbols_rows.specs.Rows.{halfIn, halvesIn, HoldersOf}
 use Rattle.symbols_numbers.specs.Numbers.{orderIn, IdsNumbered}
 use Rattle.symbols_fill.specs.declared.Filling.{Filling}
 use Rattle.symbols_fill.specs.Fill.{FilledRows}
@@ -58,13 +58,13 @@ pub record IdsHeldIn (s : Candidates) (m : ℕ) (before after : List ℕ) : Type
   pub held : HoldersOf s (holdersPart after) m
   pub kept : KeptBefore HOLDERS_AT before after
 
--- a table of positions has a word for each listed id
+-- a table of positions has room for each listed id
 pub record IdRooms (L : List ℕ) (m : ℕ) : Type 0 where
-  pub word : (p : ℕ) → p < m → 4 * wordIn L p + 4 ≤ POSITION_TABLE
+  pub word : (p : ℕ) → p < m → 2 * halfIn L p + 2 ≤ POSITION_TABLE
 
 -- the order of the result by the tables T of id rows, L of positions and H of holders, over the index
 pub record OrderLeft (T L H : List ℕ) (m : ℕ) (after : List ℕ) : Type 0 where
-  pub order : wordsIn (orderPart after) (length (orderIn T L H m RESULT-GROUPS)) ≡ orderIn T L H m RESULT-GROUPS
+  pub order : halvesIn (orderPart after) (length (orderIn T L H m RESULT-GROUPS)) ≡ orderIn T L H m RESULT-GROUPS
 
 -- and the numbers behind it
 pub record NumbersLeft (T L H : List ℕ) (m : ℕ) (before after : List ℕ) : Type 0 where

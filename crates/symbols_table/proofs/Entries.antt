@@ -20,16 +20,16 @@ use Rattle.symbols_ids.specs.Entries.{finished}
 use Rattle.symbols_ids.specs.Ids.{nameOf}
 use Rattle.symbols_ids.specs.Table.{nullEntry}
 use Rattle.symbols_rows.specs.declared.IdRow.{IdRow}
-use Rattle.symbols_rows.specs.Rows.{idRow, wordIn}
+use Rattle.symbols_rows.specs.Rows.{idRow, halfIn}
 use Rattle.symbols_entries.specs.Ids.{originIn, EntriesReady}
 use Rattle.symbols_holders.specs.Ready.{idCount}
 use Rattle.symbols_chain.specs.declared.Numbering.{Numbering}
 use Rattle.symbols_table.specs.Table.{idAt, rowEntry, entryIn, symbolsTableIn, InOrder, SymbolsReady}
 
 -- an id that was read
-pub id-read : (L O : List ℕ) (k p r : ℕ) → p ≡ wordIn O k → r ≡ wordIn L p → r ≡ idAt L O k
+pub id-read : (L O : List ℕ) (k p r : ℕ) → p ≡ halfIn O k → r ≡ halfIn L p → r ≡ idAt L O k
 unfolding idAt
-id-read L O k p r e f = f ∙ ap (wordIn L) e
+id-read L O k p r e f = f ∙ ap (halfIn L) e
 
 module _ (C A T M R L O : List ℕ) (n : Numbering) where
   abbrev o : ByteOrder

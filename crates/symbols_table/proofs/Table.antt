@@ -28,7 +28,7 @@ use Rattle.symbols_ids.specs.Table.{resultEntry, resultSymbols}
 use Rattle.symbols_names.proofs.Names.{own-count, other-count, ids-held}
 use Rattle.symbols_entries.specs.Ids.{EntriesReady}
 use Rattle.symbols_entries.proofs.Ids.{name-low, offset-low, entry-of}
-use Rattle.symbols_rows.specs.Rows.{idSection, idValue, wordIn}
+use Rattle.symbols_rows.specs.Rows.{idSection, idValue, halfIn}
 use Rattle.symbols_rows.proofs.Rows.{row-fields}
 use Rattle.symbols_rows.proofs.Tables.{list-long, list-at}
 use Rattle.symbols_holders.specs.Ready.{idCount, symbolsIn}
@@ -127,18 +127,18 @@ module _ (C A : List ℕ) (P : List Place) (B T late M R L O : List ℕ) (m : �
     back : suc k - 1 ≡ k
     back = omega arith
 
-    position-low : wordIn O k < m
+    position-low : halfIn O k < m
     position-low =
-        let a : wordIn O k < length (listed t) = rw back at (entry-lt t O (g .ordered) (suc k) (omega arith) below) in
+        let a : halfIn O k < length (listed t) = rw back at (entry-lt t O (g .ordered) (suc k) (omega arith) below) in
         omega (arith, a, ap length (listed-agree s t agree), list-long s L m (g .listed .ready .list))
 
     -- the id that the order has for it is the candidate whose symbol it is
     pub id-merged : idAt L O k ≡ mergedAt t (suc k)
     unfolding idAt
     id-merged =
-        list-at s L m (g .listed .ready .list) (wordIn O k) position-low
-        ∙ at-agree s t agree (wordIn O k)
-        ∙ ap (λ (j : ℕ). listedAt t (wordIn O j)) (sym back)
+        list-at s L m (g .listed .ready .list) (halfIn O k) position-low
+        ∙ at-agree s t agree (halfIn O k)
+        ∙ ap (λ (j : ℕ). listedAt t (halfIn O j)) (sym back)
         ∙ sym (entry-is t O (g .ordered) (suc k) (omega arith) below)
 
     id-taken : Taken t (idAt L O k)

@@ -12,7 +12,7 @@ use Rattle.statics_table.specs.Table.{staticsIn}
 use Rattle.symbols_ids.specs.Entries.{finished}
 use Rattle.symbols_ids.specs.Ids.{nameOf}
 use Rattle.symbols_ids.specs.Table.{nullEntry}
-use Rattle.symbols_rows.specs.Rows.{idSection, idValue, wordIn}
+use Rattle.symbols_rows.specs.Rows.{idSection, idValue, halfIn}
 use Rattle.symbols_entries.specs.Ids.{originIn, EntriesReady}
 use Rattle.symbols_holders.specs.Ready.{idCount}
 use Rattle.symbols_fill.specs.declared.Filling.{Filling}
@@ -20,7 +20,7 @@ use Rattle.symbols_chain.specs.declared.Numbering.{Numbering}
 
 -- the id at place k of the order
 unfoldable pub idAt : List ℕ → List ℕ → ℕ → ℕ
-idAt L O k = wordIn L (wordIn O k)
+idAt L O k = halfIn L (halfIn O k)
 
 -- the entry of id i, with the section and the value of its row
 unfoldable pub rowEntry : List ℕ → List ℕ → List ℕ → List ℕ → List ℕ → Filling → ℕ → SymbolEntry
@@ -41,8 +41,8 @@ module _ (C A T M R L O : List ℕ) (n : Numbering) where
 
 -- place k of the order has its word, and so has the position there
 pub record InOrder (L O : List ℕ) (k : ℕ) : Type 0 where
-  pub place : 4 * k + 4 ≤ length O
-  pub position : 4 * wordIn O k + 4 ≤ length L
+  pub place : 2 * k + 2 ≤ length O
+  pub position : 2 * halfIn O k + 2 ≤ length L
 
 -- for all entries: what the entries of ids are made of, and behind entry 0 an id for each, with its row, and with a section index of two bytes
 pub record SymbolsReady (C A T M R L O : List ℕ) (n : Numbering) : Type 0 where

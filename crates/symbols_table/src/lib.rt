@@ -29,7 +29,7 @@ fn id_in_order(list: &[u8], order: &[u8], k: usize) -> usize
     requires { ⌜ InOrder (now list) (now order) k ⌝ }
     ensures { λ r. ⌜ r ≡ idAt (now (list .entry)) (now (order .entry)) k ⌝ }
 {
-    symbols_rows::word_at(list, symbols_rows::word_at(order, k))
+    symbols_rows::half_at(list, symbols_rows::half_at(order, k))
 }
 
 // Entry k of the result: behind entry 0 stands that of the id at place k - 1 of the order.

@@ -38,6 +38,17 @@ module _ (o : ByteOrder) (F : List ℕ) (w : Carrying) (t : ℕ) where
       let a = fit (entrySize o F t) (count (isKept o F w t) (relocationCount o F t)) (size-cases o F t) (count-le (isKept o F w t) (relocationCount o F t)) in
       omega (arith, a, h .held t l (table-type o F t k))
 
+  all-short : Headed o F → t < sectionCount o F → isTable o F t ≡ true → entrySize o F t * relocationCount o F t ≤ length F
+  unfolding relocationCount
+  all-short h l k = omega (arith, fit (entrySize o F t) (relocationCount o F t) (size-cases o F t) (omega arith), h .held t l (table-type o F t k))
+
+  scaled : (size m n : ℕ) → (size ≡ 8) ⊎ (size ≡ 12) → m ≤ n → size * m ≤ size * n
+  scaled size m n c l = ⊎-elim (λ e. rw e (omega (arith, l))) (λ e. rw e (omega (arith, l))) c
+
+  kept-short : entrySize o F t * keptCount o F w t ≤ entrySize o F t * relocationCount o F t
+  unfolding keptCount
+  kept-short = scaled (entrySize o F t) (count (isKept o F w t) (relocationCount o F t)) (relocationCount o F t) (size-cases o F t) (count-le (isKept o F w t) (relocationCount o F t))
+
 -- what is counted of table t is how long its entries are
 pub entries-end : (F : List ℕ) (s : Side) (rows late N : List ℕ) (t size kept : ℕ) → GoalsRead F s rows late → t < sectionCount (s .order) F → isTable (s .order) F t ≡ true
     → size ≡ entrySize (s .order) F t → kept ≡ keptIn F s rows late t
@@ -47,6 +58,17 @@ entries-end F s rows late N t size kept g l k e f =
     let a : size * kept ≡ entrySize (s .order) F t * keptCount (s .order) F w t = rw (e, f, kept-is F s rows late N t) in
     let b = carried-short (s .order) F w t (g .viewed .named .headed) l k in
     (a ∙ sym (carried-long (s .order) F w t), omega (arith, a, b))
+
+-- and no longer than all entries of the table
+pub entries-most : (F : List ℕ) (s : Side) (rows late N : List ℕ) (t size all : ℕ) → GoalsRead F s rows late → t < sectionCount (s .order) F → isTable (s .order) F t ≡ true
+    → size ≡ entrySize (s .order) F t → all ≡ relocationCount (s .order) F t
+    → (length (carriedBytes (s .order) F (carryingIn F s rows late N) t) ≤ size * all) × (size * all ≤ length F)
+entries-most F s rows late N t size all g l k e f =
+    let w : Carrying = carryingIn F s rows late N in
+    let a : size * all ≡ entrySize (s .order) F t * relocationCount (s .order) F t = rw (e, f) in (
+      omega (arith, a, carried-long (s .order) F w t, kept-short (s .order) F w t),
+      omega (arith, a, all-short (s .order) F w t (g .viewed .named .headed) l k),
+    )
 
 module _ (homes : List ℕ) (bytes : ℕ → List ℕ) (i : ℕ) where
   module _ (j : ℕ) where

@@ -13,7 +13,7 @@ ghost use Rattle.base_scope.specs.Limits.{FILE_LIMIT};
 ghost use Rattle.write_tables.specs.Tables.{broughtBy, joinedIn, TableRows};
 use carry_entries::Side;
 
-// Appends the entries that table t brings.
+// Appends the entries that table t brings. Where there is room for all of its entries they need not be counted first.
 pub fn append_entries(
     out: &mut [u8],
     at: u64,
@@ -32,6 +32,20 @@ pub fn append_entries(
 {
     let order = side.order;
     let size = elf_relocations::entry_size(order, file, t);
+    let all = elf_relocations::relocation_count(order, file, t);
+    let most = at + (size * all) as u64;
+    if most <= out.len() as u64 {
+        return carry_entries::write_entries(
+            out,
+            at as usize,
+            file,
+            side,
+            rows,
+            late,
+            numbers,
+            t,
+        ) as u64;
+    }
     let kept = carry_entries::kept_count(file, side, rows, late, t);
     let end = at + (size * kept) as u64;
     if end <= out.len() as u64 {

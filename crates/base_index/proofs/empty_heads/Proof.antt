@@ -25,11 +25,11 @@ loop-holds c = (omega arith, refl, empty-none _ _ _)
 head-place-requires : tie.Need-head-place-requires Inv-loop μ-loop
 head-place-requires c κs = search needs
 
-cast-write32 : tie.Need-cast-write32 Inv-loop μ-loop
-cast-write32 c = search needs
+cast-write16 : tie.Need-cast-write16 Inv-loop μ-loop
+cast-write16 c = search needs
 
-write32-requires : tie.Need-write32-requires Inv-loop μ-loop
-write32-requires c κs = search needs
+write16-requires : tie.Need-write16-requires Inv-loop μ-loop
+write16-requires c κs = search needs
 
 add-b : tie.Need-add-b Inv-loop μ-loop
 add-b c = search needs
@@ -41,7 +41,7 @@ loop-again : tie.Need-loop-again Inv-loop μ-loop
 loop-again c =
     let s = c .before .before .before .before .before .before .before .before .before in
     let l = c .before .before .before .before .before .before .loop in
-    let w = c .before .before .write32 in
+    let w = c .before .before .write16 in
     let r = room-same (s .args .cap) (now (s .args .table)) (l .table) (l .inv .1) (s .pre .0) in (
       omega arith,
       w .kept .1 .0 ∙ l .inv .1,
@@ -67,8 +67,8 @@ empty-heads-spec =
     buckets-of-requires
     loop-holds
     head-place-requires
-    cast-write32
-    write32-requires
+    cast-write16
+    write16-requires
     add-b
     loop-less
     loop-again

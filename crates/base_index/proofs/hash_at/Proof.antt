@@ -4,15 +4,15 @@ use borrow.Author.Needs.{needs}
 use Rattle.base_index.proofs.hash_at.Statement.{statement}
 use Rattle.base_index.proofs.hash_at.Tie as tie
 
-mul-read32 : tie.Need-mul-read32
-mul-read32 c = search needs
+mul-read16 : tie.Need-mul-read16
+mul-read16 c = search needs
 
-read32-requires : tie.Need-read32-requires
-read32-requires c κs = search needs
+read16-requires : tie.Need-read16-requires
+read16-requires c κs = search needs
 
 returns : tie.Need-returns
 unfolding hashIn
-returns c = c .read32 .ensures
+returns c = c .read16 .ensures .0
 
 pub hash-at-spec : {M : Type 1} → statement M
-hash-at-spec = tie.close (tie.spec mul-read32 read32-requires returns)
+hash-at-spec = tie.close (tie.spec mul-read16 read16-requires returns)

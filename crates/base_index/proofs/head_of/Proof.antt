@@ -14,8 +14,8 @@ bucket-of-requires c κs = search needs
 head-place-requires : tie.Need-head-place-requires
 head-place-requires c κs = search needs
 
-read32-requires : tie.Need-read32-requires
-read32-requires c κs = search needs
+read16-requires : tie.Need-read16-requires
+read16-requires c κs = search needs
 
 cast-result : tie.Need-cast-result
 cast-result c = search needs
@@ -24,12 +24,12 @@ returns : tie.Need-returns
 unfolding headIn
 returns c =
     let a = c .before .before .before .before .args in (
-      c .read32 .ensures
-          ∙ ap (number Big 4 (now (a .table))) (c .before .head-place .ensures)
+      c .read16 .ensures .0
+          ∙ ap (number Big 2 (now (a .table))) (c .before .head-place .ensures)
           ∙ ap (headIn (a .cap) (now (a .table))) (c .before .before .bucket-of .ensures .0),
       search needs,
     )
 
 pub head-of-spec : {M : Type 1} → statement M
 head-of-spec =
-    tie.close (tie.spec bucket-of-requires head-place-requires read32-requires cast-result returns)
+    tie.close (tie.spec bucket-of-requires head-place-requires read16-requires cast-result returns)

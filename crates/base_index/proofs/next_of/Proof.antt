@@ -11,15 +11,15 @@ use Rattle.base_index.proofs.next_of.Tie as tie
 next-place-requires : tie.Need-next-place-requires
 next-place-requires c κs = search needs
 
-read32-requires : tie.Need-read32-requires
-read32-requires c κs = search needs
+read16-requires : tie.Need-read16-requires
+read16-requires c κs = search needs
 
 cast-result : tie.Need-cast-result
 cast-result c = search needs
 
 returns : tie.Need-returns
 unfolding nextIn
-returns c = (c .read32 .ensures ∙ ap (number Big 4 (now (c .before .before .before .args .table))) (c .before .next-place .ensures), search needs)
+returns c = (c .read16 .ensures .0 ∙ ap (number Big 2 (now (c .before .before .before .args .table))) (c .before .next-place .ensures), search needs)
 
 pub next-of-spec : {M : Type 1} → statement M
-next-of-spec = tie.close (tie.spec next-place-requires read32-requires cast-result returns)
+next-of-spec = tie.close (tie.spec next-place-requires read16-requires cast-result returns)

@@ -14,7 +14,7 @@ returns c =
     let is-gone = c .before .is-gone in
     let if2 = c .if2 in
     let a = c .before .before .before .before .before .args in
-    goal-gone (a .side) (now (a .rows)) (now (a .late)) (a .code) (a .x) (if1 .taken) _ (is-gone .ensures) (if2 .taken)
+    goal-gone (a .moves) (now (a .rows)) (now (a .late)) (a .code) (a .x) (if1 .taken) _ (is-gone .ensures) (if2 .taken)
 
 returns-2 : tie.Need-returns-2
 returns-2 c =
@@ -22,7 +22,7 @@ returns-2 c =
     let is-gone = c .before .is-gone in
     let if2 = c .if2 in
     let a = c .before .before .before .before .before .args in
-    goal-stays (a .side) (now (a .rows)) (now (a .late)) (a .code) (a .x) (if1 .taken) _ (is-gone .ensures) (if2 .left)
+    goal-stays (a .moves) (now (a .rows)) (now (a .late)) (a .code) (a .x) (if1 .taken) _ (is-gone .ensures) (if2 .left)
 
 late-goal-requires : tie.Need-late-goal-requires
 late-goal-requires c κs = search needs
@@ -33,14 +33,14 @@ returns-3 c =
     let if3 = c .before .if3 in
     let late-goal = c .late-goal in
     let a = c .before .before .before .before .before .args in
-    goal-late (a .side) (now (a .rows)) (now (a .late)) (a .code) (a .x) (if1 .left) (if3 .taken) _ (late-goal .ensures)
+    goal-late (a .moves) (now (a .rows)) (now (a .late)) (a .code) (a .x) (if1 .left) (if3 .taken) _ (late-goal .ensures)
 
 returns-4 : tie.Need-returns-4
 returns-4 c =
     let if1 = c .before .if1 in
     let if3 = c .if3 in
     let a = c .before .before .before .before .args in
-    goal-same (a .side) (now (a .rows)) (now (a .late)) (a .code) (a .x) (if1 .left) (if3 .left)
+    goal-same (a .moves) (now (a .rows)) (now (a .late)) (a .code) (a .x) (if1 .left) (if3 .left)
 
 pub goal-of-spec : {M : Type 1} → statement M
 goal-of-spec =

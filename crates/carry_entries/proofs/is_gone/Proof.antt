@@ -13,7 +13,7 @@ returns c =
     let is-replaced = c .before .is-replaced in
     let if1 = c .if1 in
     let a = c .before .before .before .before .args in
-    gone-replaced (a .side) (now (a .rows)) (now (a .late)) (a .code) (a .x) _ (is-replaced .ensures) (if1 .taken)
+    gone-replaced (a .moves) (now (a .rows)) (now (a .late)) (a .code) (a .x) _ (is-replaced .ensures) (if1 .taken)
 
 is-jump-requires : tie.Need-is-jump-requires
 is-jump-requires c κs = search needs
@@ -24,7 +24,7 @@ returns-2 c =
     let if1 = c .before .if1 in
     let is-jump = c .is-jump in
     let a = c .before .before .before .before .before .args in
-    gone-jump (a .side) (now (a .rows)) (now (a .late)) (a .code) (a .x) _ (is-replaced .ensures) (if1 .left) _ (is-jump .ensures)
+    gone-jump (a .moves) (now (a .rows)) (now (a .late)) (a .code) (a .x) _ (is-replaced .ensures) (if1 .left) _ (is-jump .ensures)
 
 pub is-gone-spec : {M : Type 1} → statement M
 is-gone-spec =

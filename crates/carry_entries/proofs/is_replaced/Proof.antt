@@ -17,17 +17,17 @@ returns c =
     let is-in-gap = c .before .is-in-gap in
     let b = c .before .before .before .before .before in
     let a = b .args in
-    gap-clear (now (a .rows)) (a .side .spans) (a .gap) (b .pre .1) (a .x) _ (is-in-gap .ensures) (c .if2 .taken) (leavesOut (a .code))
+    gap-clear (now (a .rows)) (a .moves .spans) (a .gap) (b .pre .1) (a .x) _ (is-in-gap .ensures) (c .if2 .taken) (leavesOut (a .code))
 
-is-replaced-requires : tie.Need-is-replaced-requires
-is-replaced-requires c κs = c .before .before .before .before .before .pre .0
+is-word-requires : tie.Need-is-word-requires
+is-word-requires c κs = c .before .before .before .before .before .pre .0
 
 returns-2 : tie.Need-returns-2
 returns-2 c =
     let leaves-out = c .before .before .before .before .leaves-out in
     let if1 = c .before .before .before .if1 in
-    let is-replaced = c .is-replaced in
-    and-read _ (leavesOut (c .before .before .before .before .before .before .args .code)) _ _ (leaves-out .ensures) (if1 .taken) (is-replaced .ensures)
+    let is-word = c .is-word in
+    and-read _ (leavesOut (c .before .before .before .before .before .before .args .code)) _ _ (leaves-out .ensures) (if1 .taken) (is-word .ensures)
 
 returns-3 : tie.Need-returns-3
 returns-3 c = and-left _ (leavesOut (c .before .before .before .args .code)) _ (c .before .leaves-out .ensures) (c .if1 .left)
@@ -39,6 +39,6 @@ is-replaced-spec =
     leaves-out-requires
     is-in-gap-requires
     returns
-    is-replaced-requires
+    is-word-requires
     returns-2
     returns-3)

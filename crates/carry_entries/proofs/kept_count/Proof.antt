@@ -7,17 +7,16 @@ use borrow.Author.Needs.{needs}
 use Rattle.base_lists.specs.Ranges.{count}
 use Rattle.elf_relocations.specs.Relocations.{relocationCount}
 use Rattle.carry_entries.specs.Code.{isKeptIn, IsGap}
-use Rattle.carry_entries.proofs.Goals.{gap-none}
 use Rattle.carry_entries.proofs.Entries.{table-in, kept-all, kept-next, kept-none, kept-end, table-index, table-entry}
 use Rattle.carry_entries.proofs.kept_count.Statement.{statement}
 use Rattle.carry_entries.proofs.kept_count.Tie as tie
 
 abbrev Inv-loop : tie.InvT-loop
-Inv-loop file side rows late t table n gap₀ kept₀ k₀ gap kept k =
+Inv-loop file side rows late t order table n spans sought gap₀ kept₀ k₀ gap kept k =
     (kept ≤ k) × (k ≤ n) × (kept ≡ count (isKeptIn file side rows late t) k) × IsGap rows (side .spans) gap
 
 abbrev μ-loop : tie.MeasureT-loop
-μ-loop file side rows late t table n gap₀ kept₀ k₀ gap kept k = n - k
+μ-loop file side rows late t order table n spans sought gap₀ kept₀ k₀ gap kept k = n - k
 
 table-at-requires : tie.Need-table-at-requires Inv-loop μ-loop
 table-at-requires c κs =
@@ -40,25 +39,28 @@ returns c =
     let a = c .before .before .before .before .before .before .before .args in
     kept-all (now (a .file)) (a .side) (now (a .rows)) (now (a .late)) (a .t) _ (table-at .ensures) _ (keeps-all .ensures) (c .if1 .taken) _ (relocation-count .ensures)
 
-no-gap-requires : tie.Need-no-gap-requires Inv-loop μ-loop
-no-gap-requires c κs = search needs
+is-sought-requires : tie.Need-is-sought-requires Inv-loop μ-loop
+is-sought-requires c κs = search needs
+
+gap-before-requires : tie.Need-gap-before-requires Inv-loop μ-loop
+gap-before-requires c κs = (c .before .before .before .before .before .before .before .before .pre .0 .spans, omega arith)
 
 loop-holds : tie.Need-loop-holds Inv-loop μ-loop
 loop-holds c =
-    let a = c .before .before .before .before .before .before .before .before .args in (
+    let a = c .before .before .before .before .before .before .before .before .before .args in (
       omega arith,
       omega arith,
       kept-none (now (a .file)) (a .side) (now (a .rows)) (now (a .late)) (a .t),
-      gap-none (now (a .rows)) (a .side .spans) _ (c .no-gap .ensures),
+      c .gap-before .ensures,
     )
 
 gap-for-requires : tie.Need-gap-for-requires Inv-loop μ-loop
 gap-for-requires c κs =
-    let table-at = c .before .before .before .before .before .before .table-at in
-    let relocation-count = c .before .before .before .before .before .relocation-count in
+    let table-at = c .before .before .before .before .before .before .before .table-at in
+    let relocation-count = c .before .before .before .before .before .before .relocation-count in
     let loop-test = c .loop-test in
     let l = c .before .loop in
-    let b = c .before .before .before .before .before .before .before .before .before .before in
+    let b = c .before .before .before .before .before .before .before .before .before .before .before in
     let a = b .args in (
       b .pre .0 .viewed .named .headed,
       table-in (a .side .order) (now (a .file)) (a .t) _ (table-at .ensures) (b .pre .1) (b .pre .2),
@@ -69,10 +71,10 @@ gap-for-requires c κs =
 
 is-kept-requires : tie.Need-is-kept-requires Inv-loop μ-loop
 is-kept-requires c κs =
-    let table-at = c .before .before .before .before .before .before .before .table-at in
-    let relocation-count = c .before .before .before .before .before .before .relocation-count in
+    let table-at = c .before .before .before .before .before .before .before .before .table-at in
+    let relocation-count = c .before .before .before .before .before .before .before .relocation-count in
     let loop-test = c .before .loop-test in
-    let b = c .before .before .before .before .before .before .before .before .before .before .before in
+    let b = c .before .before .before .before .before .before .before .before .before .before .before .before in
     let a = b .args in (
       b .pre .0,
       table-in (a .side .order) (now (a .file)) (a .t) _ (table-at .ensures) (b .pre .1) (b .pre .2),
@@ -96,10 +98,10 @@ loop-again : tie.Need-loop-again Inv-loop μ-loop
 loop-again c =
     let one-if = c .one-if in
     let loop-test = c .before .before .before .loop-test in
-    let table-at = c .before .before .before .before .before .before .before .before .before .table-at in
+    let table-at = c .before .before .before .before .before .before .before .before .before .before .table-at in
     let is-kept = c .before .is-kept in
     let gap-for = c .before .before .gap-for in
-    let a = c .before .before .before .before .before .before .before .before .before .before .before .before .before .args in
+    let a = c .before .before .before .before .before .before .before .before .before .before .before .before .before .before .args in
     let l = c .before .before .before .before .loop in (
       omega (arith, one-if .ensures .1, l .inv .0),
       omega (arith, loop-test .taken),
@@ -111,8 +113,8 @@ loop-again c =
 returns-2 : tie.Need-returns-2 Inv-loop μ-loop
 returns-2 c =
     let loop-test = c .loop-test in
-    let relocation-count = c .before .before .before .before .before .relocation-count in
-    let b = c .before .before .before .before .before .before .before .before .before .before in
+    let relocation-count = c .before .before .before .before .before .before .relocation-count in
+    let b = c .before .before .before .before .before .before .before .before .before .before .before in
     let a = b .args in
     let l = c .before .loop in
     let e : l .k ≡ relocationCount (a .side .order) (now (a .file)) (a .t) = omega (arith, loop-test .left, l .inv .1, relocation-count .ensures) in
@@ -128,7 +130,8 @@ kept-count-spec =
     relocation-count-requires
     keeps-all-requires
     returns
-    no-gap-requires
+    is-sought-requires
+    gap-before-requires
     loop-holds
     gap-for-requires
     is-kept-requires

@@ -5,18 +5,17 @@ use denote.Ref.{now}
 use native.Mathlib.Omega.{arith}
 use borrow.Author.Needs.{needs}
 use Rattle.elf_relocations.specs.Relocations.{relocationCount}
-use Rattle.carry_entries.specs.Code.{carryingIn, IsGap}
-use Rattle.carry_entries.proofs.Goals.{gap-none}
+use Rattle.carry_entries.specs.Code.{carryingIn}
 use Rattle.carry_entries.proofs.Entries.{lossBelow, loss-none, loss-all, table-in, loss-step, table-index, table-entry}
 use Rattle.carry_entries.proofs.loss_in.Statement.{statement}
 use Rattle.carry_entries.proofs.loss_in.Tie as tie
 
 abbrev Inv-loop : tie.InvT-loop
-Inv-loop file side rows late numbers t best table n gap₀ lowest₀ k₀ gap lowest k =
-    (k ≤ n) × (lowest ≡ lossBelow (side .order) file (carryingIn file side rows late numbers) t best k) × IsGap rows (side .spans) gap
+Inv-loop file side rows late numbers t best table n lowest₀ k₀ lowest k =
+    (k ≤ n) × (lowest ≡ lossBelow (side .order) file (carryingIn file side rows late numbers) t best k)
 
 abbrev μ-loop : tie.MeasureT-loop
-μ-loop file side rows late numbers t best table n gap₀ lowest₀ k₀ gap lowest k = n - k
+μ-loop file side rows late numbers t best table n lowest₀ k₀ lowest k = n - k
 
 table-at-requires : tie.Need-table-at-requires Inv-loop μ-loop
 table-at-requires c κs =
@@ -28,43 +27,23 @@ relocation-count-requires c κs =
     let b = c .before .before .before .before .before in
     (b .pre .0 .goals .viewed .named .headed, b .pre .1)
 
-no-gap-requires : tie.Need-no-gap-requires Inv-loop μ-loop
-no-gap-requires c κs = search needs
-
 loop-holds : tie.Need-loop-holds Inv-loop μ-loop
 loop-holds c =
-    let a = c .before .before .before .before .before .before .before .args in (
+    let a = c .before .before .before .before .before .before .args in (
       omega arith,
       loss-none (a .side .order) (now (a .file)) (carryingIn (now (a .file)) (a .side) (now (a .rows)) (now (a .late)) (now (a .numbers))) (a .t) (a .best),
-      gap-none (now (a .rows)) (a .side .spans) _ (c .no-gap .ensures),
-    )
-
-gap-for-requires : tie.Need-gap-for-requires Inv-loop μ-loop
-gap-for-requires c κs =
-    let table-at = c .before .before .before .before .table-at in
-    let relocation-count = c .before .before .before .relocation-count in
-    let loop-test = c .loop-test in
-    let l = c .before .loop in
-    let b = c .before .before .before .before .before .before .before .before .before in
-    let a = b .args in (
-      b .pre .0 .goals .viewed .named .headed,
-      table-in (a .side .order) (now (a .file)) (a .t) _ (table-at .ensures) (b .pre .1) (b .pre .2),
-      table-entry (a .side .order) (now (a .file)) (a .t) _ (table-at .ensures) _ _ (relocation-count .ensures) (loop-test .taken),
-      b .pre .0 .goals .spans,
-      l .inv .2,
     )
 
 lower-loss-requires : tie.Need-lower-loss-requires Inv-loop μ-loop
 lower-loss-requires c κs =
-    let table-at = c .before .before .before .before .before .table-at in
-    let relocation-count = c .before .before .before .before .relocation-count in
-    let loop-test = c .before .loop-test in
-    let b = c .before .before .before .before .before .before .before .before .before .before in
+    let table-at = c .before .before .before .table-at in
+    let relocation-count = c .before .before .relocation-count in
+    let loop-test = c .loop-test in
+    let b = c .before .before .before .before .before .before .before .before in
     let a = b .args in (
       b .pre .0,
       table-in (a .side .order) (now (a .file)) (a .t) _ (table-at .ensures) (b .pre .1) (b .pre .2),
       table-entry (a .side .order) (now (a .file)) (a .t) _ (table-at .ensures) _ _ (relocation-count .ensures) (loop-test .taken),
-      c .gap-for .ensures,
     )
 
 add-k : tie.Need-add-k Inv-loop μ-loop
@@ -75,23 +54,21 @@ loop-less c = search needs
 
 loop-again : tie.Need-loop-again Inv-loop μ-loop
 loop-again c =
-    let loop-test = c .before .before .loop-test in
-    let table-at = c .before .before .before .before .before .before .table-at in
+    let loop-test = c .before .loop-test in
+    let table-at = c .before .before .before .before .table-at in
     let lower-loss = c .lower-loss in
-    let gap-for = c .before .gap-for in
-    let a = c .before .before .before .before .before .before .before .before .before .before .before .args in
-    let l = c .before .before .before .loop in (
+    let a = c .before .before .before .before .before .before .before .before .before .args in
+    let l = c .before .before .loop in (
       omega (arith, loop-test .taken),
       loss-step (a .side .order) (now (a .file)) (carryingIn (now (a .file)) (a .side) (now (a .rows)) (now (a .late)) (now (a .numbers))) (a .t) (a .best) (l .k) (l .lowest) _
           _ (table-index (a .side .order) (now (a .file)) (a .t) _ (table-at .ensures)) (l .inv .1) (lower-loss .ensures),
-      gap-for .ensures,
     )
 
 returns : tie.Need-returns Inv-loop μ-loop
 returns c =
     let loop-test = c .loop-test in
-    let relocation-count = c .before .before .before .relocation-count in
-    let b = c .before .before .before .before .before .before .before .before .before in
+    let relocation-count = c .before .before .relocation-count in
+    let b = c .before .before .before .before .before .before .before .before in
     let a = b .args in
     let l = c .before .loop in
     let e : l .k ≡ relocationCount (a .side .order) (now (a .file)) (a .t) = omega (arith, loop-test .left, l .inv .0, relocation-count .ensures) in
@@ -106,9 +83,7 @@ loss-in-spec =
     μ-loop
     table-at-requires
     relocation-count-requires
-    no-gap-requires
     loop-holds
-    gap-for-requires
     lower-loss-requires
     add-k
     loop-less

@@ -16,7 +16,7 @@ cast-x c = search needs
 is-lost-requires : tie.Need-is-lost-requires
 is-lost-requires c κs =
     let b = c .before .before .before .before .before .before .before in
-    (b .pre .0 .goals .spans, b .pre .0 .goals .moves, b .pre .0 .symbols, b .pre .3)
+    (b .pre .0 .goals .spans, b .pre .0 .goals .moves, b .pre .0 .symbols)
 
 returns : tie.Need-returns
 returns c =

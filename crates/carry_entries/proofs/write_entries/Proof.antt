@@ -6,17 +6,16 @@ use native.Mathlib.Omega.{arith}
 use borrow.Author.Needs.{needs}
 use Rattle.elf_relocations.specs.Relocations.{relocationCount}
 use Rattle.carry_entries.specs.Code.{carryingIn, IsGap}
-use Rattle.carry_entries.proofs.Goals.{gap-none}
 use Rattle.carry_entries.proofs.Entries.{EntriesPut, put-none, put-room, put-next, put-end, table-in, table-index, table-entry}
 use Rattle.carry_entries.proofs.write_entries.Statement.{statement}
 use Rattle.carry_entries.proofs.write_entries.Tie as tie
 
 abbrev Inv-loop : tie.InvT-loop
-Inv-loop out₀ at file side rows late numbers t table n gap₀ next₀ k₀ out gap next k =
+Inv-loop out₀ at file side rows late numbers t order table n spans sought gap₀ next₀ k₀ out gap next k =
     (k ≤ n) × EntriesPut (side .order) file (carryingIn file side rows late numbers) t out₀ at k next out × IsGap rows (side .spans) gap
 
 abbrev μ-loop : tie.MeasureT-loop
-μ-loop out₀ at file side rows late numbers t table n gap₀ next₀ k₀ out gap next k = n - k
+μ-loop out₀ at file side rows late numbers t order table n spans sought gap₀ next₀ k₀ out gap next k = n - k
 
 table-at-requires : tie.Need-table-at-requires Inv-loop μ-loop
 table-at-requires c κs =
@@ -28,24 +27,27 @@ relocation-count-requires c κs =
     let b = c .before .before .before .before .before .before in
     (b .pre .0 .goals .viewed .named .headed, b .pre .1)
 
-no-gap-requires : tie.Need-no-gap-requires Inv-loop μ-loop
-no-gap-requires c κs = search needs
+is-sought-requires : tie.Need-is-sought-requires Inv-loop μ-loop
+is-sought-requires c κs = search needs
+
+gap-before-requires : tie.Need-gap-before-requires Inv-loop μ-loop
+gap-before-requires c κs = (c .before .before .before .before .before .before .before .before .pre .0 .goals .spans, omega arith)
 
 loop-holds : tie.Need-loop-holds Inv-loop μ-loop
 loop-holds c =
-    let a = c .before .before .before .before .before .before .before .before .args in (
+    let a = c .before .before .before .before .before .before .before .before .before .args in (
       omega arith,
       put-none (a .side .order) (now (a .file)) (carryingIn (now (a .file)) (a .side) (now (a .rows)) (now (a .late)) (now (a .numbers))) (a .t) (now (a .out)) (a .at),
-      gap-none (now (a .rows)) (a .side .spans) _ (c .no-gap .ensures),
+      c .gap-before .ensures,
     )
 
 gap-for-requires : tie.Need-gap-for-requires Inv-loop μ-loop
 gap-for-requires c κs =
-    let table-at = c .before .before .before .before .table-at in
-    let relocation-count = c .before .before .before .relocation-count in
+    let table-at = c .before .before .before .before .before .table-at in
+    let relocation-count = c .before .before .before .before .relocation-count in
     let loop-test = c .loop-test in
     let l = c .before .loop in
-    let b = c .before .before .before .before .before .before .before .before .before .before in
+    let b = c .before .before .before .before .before .before .before .before .before .before .before in
     let a = b .args in (
       b .pre .0 .goals .viewed .named .headed,
       table-in (a .side .order) (now (a .file)) (a .t) _ (table-at .ensures) (b .pre .1) (b .pre .2),
@@ -57,10 +59,10 @@ gap-for-requires c κs =
 write-entry-requires : tie.Need-write-entry-requires Inv-loop μ-loop
 write-entry-requires c κs =
     let loop-test = c .before .before .loop-test in
-    let relocation-count = c .before .before .before .before .before .relocation-count in
-    let table-at = c .before .before .before .before .before .before .table-at in
+    let relocation-count = c .before .before .before .before .before .before .relocation-count in
+    let table-at = c .before .before .before .before .before .before .before .table-at in
     let gap-for = c .before .gap-for in
-    let b = c .before .before .before .before .before .before .before .before .before .before .before .before in
+    let b = c .before .before .before .before .before .before .before .before .before .before .before .before .before in
     let a = b .args in
     let l = c .before .before .before .loop in
     let h : l .k < relocationCount (a .side .order) (now (a .file)) (a .t) = omega (arith, loop-test .taken, relocation-count .ensures) in (
@@ -81,11 +83,11 @@ loop-less c = search needs
 loop-again : tie.Need-loop-again Inv-loop μ-loop
 loop-again c =
     let loop-test = c .before .before .before .before .before .loop-test in
-    let relocation-count = c .before .before .before .before .before .before .before .before .relocation-count in
+    let relocation-count = c .before .before .before .before .before .before .before .before .before .relocation-count in
     let write-entry = c .before .before .write-entry in
-    let table-at = c .before .before .before .before .before .before .before .before .before .table-at in
+    let table-at = c .before .before .before .before .before .before .before .before .before .before .table-at in
     let gap-for = c .before .before .before .before .gap-for in
-    let b = c .before .before .before .before .before .before .before .before .before .before .before .before .before .before .before in
+    let b = c .before .before .before .before .before .before .before .before .before .before .before .before .before .before .before .before in
     let a = b .args in
     let l = c .before .before .before .before .before .before .loop in
     let h : l .k < relocationCount (a .side .order) (now (a .file)) (a .t) = omega (arith, loop-test .taken, relocation-count .ensures) in (
@@ -102,8 +104,8 @@ same-length c = c .before .loop .inv .1 .long
 returns : tie.Need-returns Inv-loop μ-loop
 returns c =
     let loop-test = c .loop-test in
-    let relocation-count = c .before .before .before .relocation-count in
-    let b = c .before .before .before .before .before .before .before .before .before .before in
+    let relocation-count = c .before .before .before .before .relocation-count in
+    let b = c .before .before .before .before .before .before .before .before .before .before .before in
     let a = b .args in
     let l = c .before .loop in
     let e : l .k ≡ relocationCount (a .side .order) (now (a .file)) (a .t) = omega (arith, loop-test .left, l .inv .0, relocation-count .ensures) in
@@ -118,7 +120,8 @@ write-entries-spec =
     μ-loop
     table-at-requires
     relocation-count-requires
-    no-gap-requires
+    is-sought-requires
+    gap-before-requires
     loop-holds
     gap-for-requires
     write-entry-requires

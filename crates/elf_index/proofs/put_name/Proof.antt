@@ -3,6 +3,7 @@ use Rattle.base_lists.specs.Windows.{spliced}
 use Rattle.base_fields.specs.Numbers.{encoded}
 use Rattle.base_fields.specs.declared.ByteOrder.the-variants.{Big}
 use Rattle.base_index.specs.Index.{hashPlace, hashOf}
+use Rattle.base_index.proofs.Hashes.{hash-low}
 use Prim.Native.Nat.{ℕ}
 use mathlib.Core.Path.{ap, _∙_}
 use denote.Ref.{now}
@@ -17,7 +18,7 @@ hash-of-requires : tie.Need-hash-of-requires
 hash-of-requires c κs = search needs
 
 put-hash-requires : tie.Need-put-hash-requires
-put-hash-requires c κs = search needs
+put-hash-requires c κs = (search needs, rw (c .hash-of .ensures) (hash-low _))
 
 same-length : tie.Need-same-length
 same-length c = search needs
@@ -26,7 +27,7 @@ returns : tie.Need-returns
 returns c =
     let a = c .before .before .before .before .before .before .before .before .before .args in
     c .before .before .put-hash .ensures
-    ∙ ap (λ (h : ℕ). spliced (now (a .index)) (hashPlace (a .k)) (encoded Big 4 h)) (c .before .before .before .hash-of .ensures ∙ ap hashOf (c .before .before .before .before .before .symbol-name .ensures))
+    ∙ ap (λ (h : ℕ). spliced (now (a .index)) (hashPlace (a .k)) (encoded Big 2 h)) (c .before .before .before .hash-of .ensures ∙ ap hashOf (c .before .before .before .before .before .symbol-name .ensures))
 
 pub put-name-spec : {M : Type 1} → statement M
 put-name-spec =

@@ -5,6 +5,7 @@ use Rattle.statics_table.specs.declared.Static.{Static}
 use Rattle.statics_table.specs.Statics.{writtenLength}
 use Rattle.statics_table.specs.Table.{staticRow}
 use Rattle.statics_entry.specs.Code.{passed}
+use Rattle.statics_entry.proofs.Entry.{static-fits}
 use native.Mathlib.Omega.{arith}
 use Prim.Native.Nat.{_+_, _*_}
 use mathlib.Core.Path.{ap, _∙_}
@@ -28,7 +29,12 @@ written-length-requires c κs =
 write-requires : tie.Need-write-requires
 write-requires c κs =
     let q = c .before .before .before .before .before .before .pre in
-    (omega (arith, q .0 .room, q .3), q .3)
+    let a = c .before .before .before .before .before .before .args in
+    let s = c .before .before .static-from .ensures in (
+      omega (arith, q .0 .room, q .3),
+      q .3,
+      static-fits (now (a .file)) _ (a .e) (a .start) (a .nested) (a .tally .size) _ (s .0) (q .4) (q .1) (s .1) (omega (arith, s .2, q .3)) (omega (arith, q .0 .low, q .3)),
+    )
 
 add-t16 : tie.Need-add-t16
 add-t16 c = search needs

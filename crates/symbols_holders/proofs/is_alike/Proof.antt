@@ -11,11 +11,11 @@ hash-at-requires c κs = search needs
 hash-at-requires-2 : tie.Need-hash-at-requires-2
 hash-at-requires-2 c κs = search needs
 
-word-at-requires : tie.Need-word-at-requires
-word-at-requires c κs = search needs
+half-at-requires : tie.Need-half-at-requires
+half-at-requires c κs = search needs
 
-word-at-requires-2 : tie.Need-word-at-requires-2
-word-at-requires-2 c κs = search needs
+half-at-requires-2 : tie.Need-half-at-requires-2
+half-at-requires-2 c κs = search needs
 
 is-same-name-requires : tie.Need-is-same-name-requires
 is-same-name-requires c κs = search needs
@@ -26,7 +26,7 @@ returns c =
     let a = T .before .before .before .before .before .before .before .before .args in
     alike-read (a .order) (now (a .compiled)) (now (a .assembled)) (now (a .statics)) (a .sources) (now (a .list)) (now (a .index)) (a .p) (a .k) _ _
     (T .before .before .hash-at .ensures) (T .before .hash-at2 .ensures) _ _ _ (T .if1 .taken)
-    (c .before .before .word-at .ensures .0) (c .before .word-at2 .ensures .0) (c .is-same-name .ensures)
+    (c .before .before .half-at .ensures .0) (c .before .half-at2 .ensures .0) (c .is-same-name .ensures)
 
 returns-2 : tie.Need-returns-2
 returns-2 c =
@@ -40,8 +40,8 @@ is-alike-spec =
     (tie.spec
     hash-at-requires
     hash-at-requires-2
-    word-at-requires
-    word-at-requires-2
+    half-at-requires
+    half-at-requires-2
     is-same-name-requires
     returns
     returns-2)

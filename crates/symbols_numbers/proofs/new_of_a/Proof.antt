@@ -10,11 +10,11 @@ use Rattle.symbols_numbers.proofs.new_of_a.Tie as tie
 cast-i : tie.Need-cast-i
 cast-i c = search needs
 
-add-word-at : tie.Need-add-word-at
-add-word-at c = search needs
+add-half-at : tie.Need-add-half-at
+add-half-at c = search needs
 
-word-at-requires : tie.Need-word-at-requires
-word-at-requires c κs = search needs
+half-at-requires : tie.Need-half-at-requires
+half-at-requires c κs = search needs
 
 new-symbol-requires : tie.Need-new-symbol-requires
 new-symbol-requires c κs = search needs
@@ -22,7 +22,7 @@ new-symbol-requires c κs = search needs
 returns : tie.Need-returns
 returns c =
     let a = c .before .before .before .before .before .args in
-    c .new-symbol .ensures ∙ ap newSymbol (c .before .word-at .ensures .0) ∙ sym (new-in (now (a .numbers)) (a .first) (a .count) (a .k .0) (c .before .before .if1 .taken))
+    c .new-symbol .ensures ∙ ap newSymbol (c .before .half-at .ensures .0) ∙ sym (new-in (now (a .numbers)) (a .first) (a .count) (a .k .0) (c .before .before .if1 .taken))
 
 returns-2 : tie.Need-returns-2
 returns-2 c =
@@ -31,4 +31,4 @@ returns-2 c =
 
 pub new-of-a-spec : {M : Type 1} → statement M
 new-of-a-spec =
-    tie.close (tie.spec cast-i add-word-at word-at-requires new-symbol-requires returns returns-2)
+    tie.close (tie.spec cast-i add-half-at half-at-requires new-symbol-requires returns returns-2)

@@ -10,8 +10,8 @@ use Rattle.symbols_numbers.proofs.new_of_c.Tie as tie
 cast-i : tie.Need-cast-i
 cast-i c = search needs
 
-word-at-requires : tie.Need-word-at-requires
-word-at-requires c κs = search needs
+half-at-requires : tie.Need-half-at-requires
+half-at-requires c κs = search needs
 
 new-symbol-requires : tie.Need-new-symbol-requires
 new-symbol-requires c κs = search needs
@@ -19,7 +19,7 @@ new-symbol-requires c κs = search needs
 returns : tie.Need-returns
 returns c =
     let a = c .before .before .before .before .before .args in
-    c .new-symbol .ensures ∙ ap newSymbol (c .before .word-at .ensures .0) ∙ sym (new-first (now (a .numbers)) (a .count) (a .k .0) (c .before .before .if1 .taken))
+    c .new-symbol .ensures ∙ ap newSymbol (c .before .half-at .ensures .0) ∙ sym (new-first (now (a .numbers)) (a .count) (a .k .0) (c .before .before .if1 .taken))
 
 returns-2 : tie.Need-returns-2
 returns-2 c =
@@ -27,4 +27,4 @@ returns-2 c =
     sym (new-past (now (a .numbers)) 0 (a .count) (a .k .0) (c .if1 .left))
 
 pub new-of-c-spec : {M : Type 1} → statement M
-new-of-c-spec = tie.close (tie.spec cast-i word-at-requires new-symbol-requires returns returns-2)
+new-of-c-spec = tie.close (tie.spec cast-i half-at-requires new-symbol-requires returns returns-2)

@@ -10,18 +10,18 @@ use Rattle.symbols_rows.proofs.append_id.Tie as tie
 is-in-list-requires : tie.Need-is-in-list-requires
 is-in-list-requires c κs = search needs
 
-mul-write32 : tie.Need-mul-write32
-mul-write32 c =
+mul-write16 : tie.Need-mul-write16
+mul-write16 c =
     let b = c .before .before .before .before .before in
     omega (arith, b .pre .2 (sym (c .before .before .is-in-list .ensures) ∙ c .before .if1 .taken))
 
-cast-write32 : tie.Need-cast-write32
-cast-write32 c = search needs
+cast-write16 : tie.Need-cast-write16
+cast-write16 c = search needs
 
-write32-requires : tie.Need-write32-requires
-write32-requires c κs =
+write16-requires : tie.Need-write16-requires
+write16-requires c κs =
     let b = c .before .before .before .before .before in
-    b .pre .2 (sym (c .before .before .is-in-list .ensures) ∙ c .before .if1 .taken)
+    (b .pre .2 (sym (c .before .before .is-in-list .ensures) ∙ c .before .if1 .taken), omega (arith, b .pre .1))
 
 add-result : tie.Need-add-result
 add-result c =
@@ -34,7 +34,7 @@ same-length c = search needs
 returns : tie.Need-returns
 returns c =
     let a = c .before .before .before .before .before .before .before .before .args in
-    turn-yes _ (a .i) (a .m) (now (a .list)) _ (sym (c .before .before .before .before .before .is-in-list .ensures) ∙ c .before .before .before .before .if1 .taken) (c .before .before .write32 .ensures)
+    turn-yes _ (a .i) (a .m) (now (a .list)) _ (sym (c .before .before .before .before .before .is-in-list .ensures) ∙ c .before .before .before .before .if1 .taken) (c .before .before .write16 .ensures)
 
 returns-2 : tie.Need-returns-2
 returns-2 c =
@@ -46,9 +46,9 @@ append-id-spec =
     tie.close
     (tie.spec
     is-in-list-requires
-    mul-write32
-    cast-write32
-    write32-requires
+    mul-write16
+    cast-write16
+    write16-requires
     add-result
     same-length
     returns

@@ -7,16 +7,16 @@ use borrow.Author.Needs.{needs}
 use Rattle.symbols_rows.proofs.row_at.Statement.{statement}
 use Rattle.symbols_rows.proofs.row_at.Tie as tie
 
-word-at-requires : tie.Need-word-at-requires
-word-at-requires c κs = search needs
+half-at-requires : tie.Need-half-at-requires
+half-at-requires c κs = search needs
 
 id-at-requires : tie.Need-id-at-requires
 id-at-requires c κs =
     let b = c .before .before .before in
-    omega (arith, b .pre .row, c .word-at .ensures .0)
+    omega (arith, b .pre .row, c .half-at .ensures .0)
 
 returns : tie.Need-returns
-returns c = c .id-at .ensures ∙ ap (idRow (now (c .before .before .before .before .args .rows))) (c .before .word-at .ensures .0)
+returns c = c .id-at .ensures ∙ ap (idRow (now (c .before .before .before .before .args .rows))) (c .before .half-at .ensures .0)
 
 pub row-at-spec : {M : Type 1} → statement M
-row-at-spec = tie.close (tie.spec word-at-requires id-at-requires returns)
+row-at-spec = tie.close (tie.spec half-at-requires id-at-requires returns)
