@@ -303,7 +303,7 @@ fn fill_row<'a>(
 }
 
 // How many ids there are.
-fn id_count(sources: Sources) -> usize
+pub fn id_count(sources: Sources) -> usize
     requires { ⌜ idCount sources ≤ ID_LIMIT ⌝ }
     ensures { λ r. ⌜ r ≡ idCount sources ⌝ }
 {

@@ -1,5 +1,5 @@
 -- What the symbol merge answers, step by step: which test decides, and what stands in the buffers where none refuses. Assumes nothing.
-use Prim.Native.Nat.{ℕ, _+_, _≤_, _<_}
+use Prim.Native.Nat.{ℕ, _+_, _*_, _≤_, _<_}
 use mathlib.Core.Path.{_≡_, refl, sym, ap, _∙_}
 use mathlib.Core.List.{List}
 use native.Mathlib.Omega.{arith}
@@ -7,6 +7,8 @@ use lib.ListN.{length, getD}
 use Rattle.base_lists.specs.Windows.{Within}
 use Rattle.base_lists.proofs.Ranges.{select-all-at}
 use Rattle.base_fields.specs.declared.ByteOrder.{ByteOrder}
+use Rattle.base_fields.specs.declared.ByteOrder.the-variants.{Big}
+use Rattle.base_fields.proofs.Numbers.{number-part}
 use Rattle.base_scope.specs.Limits.{HEAD_LIMIT, ID_LIMIT, STATIC_TABLE, USED_TABLE, LATE_TABLE, GLABEL_TABLE, POSITION_TABLE, PLACE_TABLE}
 use Rattle.base_scope.specs.Codes.{LATE_TARGET}
 use Rattle.base_scope.specs.Refusals.{STATICS}
@@ -24,8 +26,10 @@ use Rattle.blocks_file.specs.Blocks.{blockCount}
 use Rattle.blocks_places.specs.Lines.{lineCount}
 use Rattle.blocks_places.specs.Places.{Place}
 use Rattle.blocks_places.specs.Table.{placesIn, Laid}
-use Rattle.base_buffers.specs.Parts.{KeptBefore}
+use Rattle.base_buffers.specs.Buffers.{zeros}
+use Rattle.base_buffers.specs.Parts.{partAt, KeptBefore}
 use Rattle.merge_buffers.specs.Buffers.{ROWS_AT, HOLDERS_AT, USED_AT, STATIC_AT, GLABELS_AT, LIST_AT, STEP_BUFFER, NUMBERS_AT, INDEX_BUFFER, blocksPart, idsPart, placesPart, holdersPart, lateStepPart, usedPart, staticsPart, glabelsPart, listPart, namesPart, orderPart, numbersPart, BuffersHeld}
+use Rattle.base_buffers.proofs.Buffers.{length-zeros}
 use Rattle.base_buffers.proofs.Parts.{kept-part, kept-same, kept-less, kept-then, part-long}
 use Rattle.merge_sections.specs.declared.Stage.{Stage}
 use Rattle.merge_sections.specs.Stages.{StageRead, Movable}
@@ -44,11 +48,11 @@ use Rattle.symbols_taken.specs.Code.{usedBytes, LateIn, StepIn}
 use Rattle.symbols_taken.proofs.InHand.{step-late, taken-is}
 use Rattle.symbols_taken.proofs.Passed.{taken-passed}
 use Rattle.symbols_ids.specs.Ids.{candidates, mergeCandidates}
-use Rattle.symbols_rows.specs.Rows.{HoldersOf}
+use Rattle.symbols_rows.specs.Rows.{halfIn, HoldersOf}
 use Rattle.symbols_rows.specs.Steps.{verdictIn}
 use Rattle.symbols_holders.specs.Ready.{idCount, symbolsIn, HoldersReady}
 use Rattle.symbols_numbers.specs.Numbers.{Tables, HoldersFirst, orderIn, groupStarts}
-use Rattle.symbols_numbers.specs.Result.{StartsOf}
+use Rattle.symbols_numbers.specs.Result.{NumbersOf, StartsOf}
 use Rattle.symbols_numbers.proofs.Counts.{start-few}
 use Rattle.symbols_fill.specs.declared.Filling.{Filling}
 use Rattle.symbols_fill.specs.Fill.{FillReady}
@@ -86,9 +90,9 @@ module _ (T L H : List ℕ) (m : ℕ) where
     omega (arith, start-at starts RESULT-GROUPS e (omega arith), start-few T L H m RESULT-GROUPS, w .few),
   )
 
-  module _ (statics : ℕ) (v : Verdict) (is : v ≡ verdictIn T L H m) (index : List ℕ) where
-    pub end-numbered : v ≡ Passed → (starts : List ℕ) → SymbolsNumbered T L H m starts (orderPart index) (numbersPart index) → (n : Counts) → n ≡ countsOf statics starts
-        → NumberedEnd T L H m statics (Numbered n) index
+  module _ (ids statics : ℕ) (v : Verdict) (is : v ≡ verdictIn T L H m) (index : List ℕ) where
+    pub end-numbered : v ≡ Passed → (starts : List ℕ) → SymbolsNumbered T L H m starts (orderPart index) (partAt NUMBERS_AT (2 * ids) index) → (n : Counts) → n ≡ countsOf statics starts
+        → NumberedEnd T L H m ids statics (Numbered n) index
     unfolding endVerdict
     end-numbered p starts w n e = record {
       verdict = sym p ∙ is;
@@ -96,7 +100,7 @@ module _ (T L H : List ℕ) (m : ℕ) where
       tables = λ x q. rw (← w .groups) w;
     }
 
-    pub end-refused : (x y z : ℕ) → v ≡ Refused x y z → NumberedEnd T L H m statics (Unnumbered x y z) index
+    pub end-refused : (x y z : ℕ) → v ≡ Refused x y z → NumberedEnd T L H m ids statics (Unnumbered x y z) index
     unfolding endVerdict
     end-refused x y z p = record {
       verdict = sym p ∙ is;
@@ -127,26 +131,26 @@ module _ (C A : List ℕ) (f : Filling) (m : ℕ) (table table1 steps steps1 : L
     held-as = rw (← statics-same) (h .held)
 
     in-tables : (used index index1 : List ℕ) → FillReady C A (staticsPart steps) used (lateStepPart steps) f → BuffersHeld table places steps index → length index1 ≡ length index
-        → Tables (idsPart table1) (listPart steps1) (holdersPart places1) m × HoldersFirst (listPart steps1) (holdersPart places1) m × IdRooms (listPart steps1) m
+        → Tables (idsPart table1) (listPart steps1) (holdersPart places1) m × HoldersFirst (listPart steps1) (holdersPart places1) m × IdRooms (listPart steps1) m (idCount (f .sources))
         × (INDEX_BUFFER ≤ length index1)
     in-tables used index index1 q b same =
         let p : PLACE_TABLE + POSITION_TABLE ≤ length places1 = rw (h .kept .long) (b .places-long) in
         let long = part-long HOLDERS_AT POSITION_TABLE places1 p in
         let few = ids-few C A (staticsPart steps) (lateStepPart steps) f (q .places) in
-        let room = chain-room C A (staticsPart steps) (lateStepPart steps) f (idsPart table1) (listPart steps1) m (w .listed) (holdersPart places1) held-as (holdersPart places1) (omega (arith, long, few)) in (
+        let room = chain-room C A (staticsPart steps) (lateStepPart steps) f (idsPart table1) (listPart steps1) m (w .listed) (holdersPart places1) held-as (zeros (2 * idCount (f .sources))) (omega (arith, length-zeros (2 * idCount (f .sources)))) in (
           chain-tables C A (staticsPart steps) (lateStepPart steps) f (idsPart table1) (listPart steps1) m (w .listed) (holdersPart places1) held-as,
           chain-first C A (staticsPart steps) (lateStepPart steps) f (idsPart table1) (listPart steps1) m (w .listed) (holdersPart places1) held-as,
-          record { word = λ k l. omega (arith, room .word k l, long) },
+          record { low = λ k l. omega (arith, room .word k l, length-zeros (2 * idCount (f .sources))); few = few },
           rw same (b .index-long),
         )
 
     pub list-number : (used index index1 : List ℕ) → FillReady C A (staticsPart steps) used (lateStepPart steps) f → BuffersHeld table places steps index
         → length index1 ≡ length index → (rows list holders : List ℕ) → rows ≡ idsPart table1 → list ≡ listPart steps1 → holders ≡ holdersPart places1
-        → Tables rows list holders m × HoldersFirst list holders m × IdRooms list m × (INDEX_BUFFER ≤ length index1)
+        → Tables rows list holders m × HoldersFirst list holders m × IdRooms list m (idCount (f .sources)) × (INDEX_BUFFER ≤ length index1)
     list-number used index index1 q b same rows list holders t l p = rw (t, l, p) (in-tables used index index1 q b same)
 
     pub list-end : (r : SymbolsEnd) (index rows list holders : List ℕ) → rows ≡ idsPart table1 → list ≡ listPart steps1 → holders ≡ holdersPart places1
-        → NumberedEnd rows list holders m (f .sources .statics) r index → ListEnd C A f r table table1 places places1 steps steps1 index
+        → NumberedEnd rows list holders m (idCount (f .sources)) (f .sources .statics) r index → ListEnd C A f r table table1 places places1 steps steps1 index
     list-end r index rows list holders t l p e = record {
       positions = m;
       listed = w .listed;
@@ -155,6 +159,21 @@ module _ (C A : List ℕ) (f : Filling) (m : ℕ) (table table1 steps steps1 : L
       keptTable = w .keptTable;
       keptPlaces = h .kept;
       keptSteps = w .keptSteps;
+    }
+
+-- numbers that stand in the front of their table stand in the table
+numbers-whole : (t : Candidates) (n : ℕ) (index : List ℕ) → INDEX_BUFFER ≤ length index → n ≤ ID_LIMIT → NumbersOf t (partAt NUMBERS_AT (2 * n) index)
+    → NumbersOf t (numbersPart index)
+unfolding halfIn partAt
+numbers-whole t n index long few w =
+    let own : length (partAt NUMBERS_AT (2 * n) index) ≡ 2 * n = part-long NUMBERS_AT (2 * n) index (omega (arith, long, few)) in
+    let all : length (numbersPart index) ≡ POSITION_TABLE = part-long NUMBERS_AT POSITION_TABLE index (omega (arith, long)) in
+    record {
+      long = omega (arith, w .long, own, all, few);
+      is = λ i u.
+          number-part Big 2 index NUMBERS_AT POSITION_TABLE (2 * i) (omega (arith, w .long, own, few))
+          ∙ sym (number-part Big 2 index NUMBERS_AT (2 * n) (2 * i) (omega (arith, w .long, own)))
+          ∙ w .is i u;
     }
 
 -- ---- 17
@@ -294,15 +313,18 @@ module _ (C A B : List ℕ) (s : Stage) (w : Manner) (table places steps index :
           order-long : length (orderPart index3) ≡ POSITION_TABLE
           order-long = part-long 0 POSITION_TABLE index3 (omega (arith, index-long-3))
 
-          numbers-long : length (numbersPart index3) ≡ POSITION_TABLE
-          numbers-long = part-long NUMBERS_AT POSITION_TABLE index3 (omega (arith, index-long-3))
+          abbrev numbers-3 : List ℕ
+          numbers-3 = partAt NUMBERS_AT (2 * idCount (f .sources)) index3
+
+          numbers-long : length numbers-3 ≡ 2 * idCount (f .sources)
+          numbers-long = part-long NUMBERS_AT (2 * idCount (f .sources)) index3 (omega (arith, index-long-3, ids-few-2))
 
           module _ (n : Counts) (q : e ≡ Numbered n) where
-            numbered : SymbolsNumbered T L H (l .positions) starts (orderPart index3) (numbersPart index3)
+            numbered : SymbolsNumbered T L H (l .positions) starts (orderPart index3) numbers-3
             numbered = l .end .tables n q
 
             starts-3 : StartsOf t starts
-            starts-3 = rw (← own-candidates) (chain-starts C A U (lateStepPart steps2) f T L (l .positions) (l .listed) H held-in P B fill-2 starts (orderPart index3) (numbersPart index3) numbered)
+            starts-3 = rw (← own-candidates) (chain-starts C A U (lateStepPart steps2) f T L (l .positions) (l .listed) H held-in P B fill-2 starts (orderPart index3) numbers-3 numbered)
 
             glabels-long : length (glabelsPart steps2) ≡ GLABEL_TABLE
             glabels-long =
@@ -325,7 +347,7 @@ module _ (C A B : List ℕ) (s : Stage) (w : Manner) (table places steps index :
               marked = g .words .words;
               filled = fill-2;
               listed = l .listed;
-              ordered = chain-order C A U (lateStepPart steps2) f T L (l .positions) (l .listed) H held-in P B fill-2 starts (orderPart index3) (numbersPart index3) numbered (omega (arith, order-long, few));
+              ordered = chain-order C A U (lateStepPart steps2) f T L (l .positions) (l .listed) H held-in P B fill-2 starts (orderPart index3) numbers-3 numbered (omega (arith, order-long, few));
               counted = starts-3 .all ∙ ap mergedCount (sym own-candidates);
             }
 
@@ -355,7 +377,7 @@ module _ (C A B : List ℕ) (s : Stage) (w : Manner) (table places steps index :
               positions = l .positions;
               tables = rw (late-3, statics-3, glabels-3) stage-2;
               statics-are = statics-by;
-              numbers = rw (← own-candidates) (chain-numbers C A U (lateStepPart steps2) f T L (l .positions) (l .listed) H held-in P B fill-2 starts (orderPart index3) (numbersPart index3) numbered (omega (arith, numbers-long, ids-few-2)));
+              numbers = rw (← own-candidates) (numbers-whole _ (idCount (f .sources)) index3 index-long-3 ids-few-2 (chain-numbers C A U (lateStepPart steps2) f T L (l .positions) (l .listed) H held-in P B fill-2 starts (orderPart index3) numbers-3 numbered (omega (arith, numbers-long))));
               locals-are = locals-by;
             })
 

@@ -1,5 +1,5 @@
 -- What each step asks and leaves, table by table. Assumes nothing.
-use Prim.Native.Nat.{ℕ, _-_, _*_, _≤_}
+use Prim.Native.Nat.{ℕ, _+_, _-_, _*_, _≤_}
 use mathlib.Core.Path.{_≡_, refl, ap, _∙_}
 use mathlib.Core.List.{List}
 use native.Mathlib.Omega.{arith}
@@ -15,8 +15,8 @@ use Rattle.elf_check.specs.View.{Viewed}
 use Rattle.blocks_file.specs.Blocks.{blockCount}
 use Rattle.blocks_places.specs.Lines.{lineCount}
 use Rattle.blocks_places.specs.Table.{placesIn, Laid}
-use Rattle.base_buffers.specs.Parts.{KeptBefore}
-use Rattle.merge_buffers.specs.Buffers.{ROWS_AT, BLOCK_BUFFER, HOLDERS_AT, PLACE_BUFFER, USED_AT, STATIC_AT, GLABELS_AT, LIST_AT, STEP_BUFFER, NUMBERS_AT, SPANS_AT, INDEX_BUFFER, blocksPart, idsPart, placesPart, lateStepPart, usedPart, staticsPart, listPart, namesPart, orderPart, numbersPart, BuffersHeld}
+use Rattle.base_buffers.specs.Parts.{partAt, KeptBefore}
+use Rattle.merge_buffers.specs.Buffers.{ROWS_AT, BLOCK_BUFFER, HOLDERS_AT, PLACE_BUFFER, USED_AT, STATIC_AT, GLABELS_AT, LIST_AT, STEP_BUFFER, NUMBERS_AT, INDEX_BUFFER, blocksPart, idsPart, placesPart, lateStepPart, usedPart, staticsPart, listPart, namesPart, orderPart, BuffersHeld}
 use Rattle.base_buffers.proofs.Parts.{lent, putBack, kept-part, part-long, part-lent, put-table, put-kept}
 use Rattle.merge_inputs.specs.declared.Inputs.{Inputs}
 use Rattle.merge_sections.specs.declared.Stage.{Stage}
@@ -193,24 +193,24 @@ module _ (T L H : List ℕ) (m from to : ℕ) (index : List ℕ) (room : INDEX_B
         let put = put-table 0 POSITION_TABLE from to index part (putBack from to index part) starts ends (omega (arith, room)) same refl in
         record { order = rw put w }
 
-  module _ (starts : from ≡ NUMBERS_AT) (ends : to ≡ SPANS_AT) where
-    number-long : length (lent from to index) ≡ POSITION_TABLE
-    number-long = ap length (part-lent NUMBERS_AT POSITION_TABLE from to index starts ends) ∙ part-long NUMBERS_AT POSITION_TABLE index (omega (arith, room))
+  module _ (n : ℕ) (ids : IdRooms L m n) (starts : from ≡ NUMBERS_AT) (ends : to ≡ NUMBERS_AT + 2 * n) where
+    number-long : length (lent from to index) ≡ 2 * n
+    number-long = ap length (part-lent NUMBERS_AT (2 * n) from to index starts ends) ∙ part-long NUMBERS_AT (2 * n) index (omega (arith, room, ids .few))
 
-    pub number-room : IdRooms L m → IdRoom L m (lent from to index)
-    number-room w = record { word = λ p h. omega (arith, w .word p h, number-long) }
+    pub number-room : IdRoom L m (lent from to index)
+    number-room = record { word = λ p h. omega (arith, ids .low p h, number-long) }
 
-    pub numbers-of : (part : List ℕ) → length part ≡ length (lent from to index) → IdsNumbered T L H m m part → NumbersLeft T L H m index (putBack from to index part)
+    pub numbers-of : (part : List ℕ) → length part ≡ length (lent from to index) → IdsNumbered T L H m m part → NumbersLeft T L H m n index (putBack from to index part)
     numbers-of part same w =
-        let put = put-table NUMBERS_AT POSITION_TABLE from to index part (putBack from to index part) starts ends (omega (arith, room)) same refl in
+        let put = put-table NUMBERS_AT (2 * n) from to index part (putBack from to index part) starts ends (omega (arith, room, ids .few)) same refl in
         record {
           numbers = rw put w;
-          kept = put-kept NUMBERS_AT POSITION_TABLE from to index part (putBack from to index part) starts ends (omega (arith, room)) same refl;
+          kept = put-kept NUMBERS_AT (2 * n) from to index part (putBack from to index part) starts ends (omega (arith, room, ids .few)) same refl;
         }
 
-pub numbered-of : (T L H : List ℕ) (m : ℕ) (starts before after : List ℕ) → starts ≡ groupStarts T L H m → OrderLeft T L H m before → NumbersLeft T L H m before after
-    → SymbolsNumbered T L H m starts (orderPart after) (numbersPart after)
-numbered-of T L H m starts before after g o n = record {
+pub numbered-of : (T L H : List ℕ) (m ids : ℕ) (starts before after : List ℕ) → starts ≡ groupStarts T L H m → OrderLeft T L H m before → NumbersLeft T L H m ids before after
+    → SymbolsNumbered T L H m starts (orderPart after) (partAt NUMBERS_AT (2 * ids) after)
+numbered-of T L H m ids starts before after g o n = record {
   groups = g;
   order = rw (kept-part NUMBERS_AT before after (n .kept) 0 POSITION_TABLE (omega arith)) (o .order);
   numbers = n .numbers;

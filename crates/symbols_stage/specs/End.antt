@@ -1,6 +1,6 @@
 -- Of the code, not of document 01: what the symbol merge answers, and what stands in the working buffers where nothing was refused. C is the compiled object, A the assembled
 -- one, B the block file, whose places stand in the buffer of places.
-use Prim.Native.Nat.{ℕ, _+_}
+use Prim.Native.Nat.{ℕ, _+_, _*_}
 use mathlib.Core.Path.{_≡_}
 use mathlib.Core.List.{List}
 use lib.ListN.{getD}
@@ -9,8 +9,8 @@ use Rattle.base_answers.specs.declared.Verdict.the-variants.{Passed, Refused}
 use Rattle.blocks_places.specs.Lines.{lineCount}
 use Rattle.blocks_places.specs.Places.{Place}
 use Rattle.blocks_places.specs.Table.{placesIn}
-use Rattle.base_buffers.specs.Parts.{KeptBefore}
-use Rattle.merge_buffers.specs.Buffers.{ROWS_AT, HOLDERS_AT, USED_AT, STATIC_AT, LIST_AT, idsPart, placesPart, holdersPart, lateStepPart, staticsPart, glabelsPart, listPart, orderPart, numbersPart}
+use Rattle.base_buffers.specs.Parts.{partAt, KeptBefore}
+use Rattle.merge_buffers.specs.Buffers.{ROWS_AT, HOLDERS_AT, USED_AT, STATIC_AT, LIST_AT, NUMBERS_AT, idsPart, placesPart, holdersPart, lateStepPart, staticsPart, glabelsPart, listPart, orderPart, numbersPart}
 use Rattle.merge_sections.specs.declared.Stage.{Stage}
 use Rattle.statics_table.specs.Table.{staticsIn}
 use Rattle.statics_walk.specs.Walk.{statics}
@@ -18,7 +18,7 @@ use Rattle.symbols_merge.specs.Merged.{RESULT-GROUPS, LOCAL-GROUPS, localCount}
 use Rattle.symbols_ids.specs.Ids.{mergeCandidates}
 use Rattle.symbols_rows.specs.Rows.{HoldersOf}
 use Rattle.symbols_rows.specs.Steps.{verdictIn}
-use Rattle.symbols_holders.specs.Ready.{symbolsIn}
+use Rattle.symbols_holders.specs.Ready.{idCount, symbolsIn}
 use Rattle.symbols_numbers.specs.Numbers.{groupStarts}
 use Rattle.symbols_numbers.specs.Result.{NumbersOf}
 use Rattle.symbols_fill.specs.declared.Filling.{Filling}
@@ -48,18 +48,18 @@ fillingOf s mode n = record {
   mode = mode;
 }
 
--- 18 and 19 over the tables T of id rows, L of positions and H of holders, and the numbers
-pub record NumberedEnd (T L H : List ℕ) (m statics : ℕ) (r : SymbolsEnd) (index : List ℕ) : Type 0 where
+-- 18 and 19 over the tables T of id rows, L of positions and H of holders, and the numbers of so many ids
+pub record NumberedEnd (T L H : List ℕ) (m ids statics : ℕ) (r : SymbolsEnd) (index : List ℕ) : Type 0 where
   pub verdict : endVerdict r ≡ verdictIn T L H m
   pub is : (n : Counts) → r ≡ Numbered n → n ≡ countsOf statics (groupStarts T L H m)
-  pub tables : (n : Counts) → r ≡ Numbered n → SymbolsNumbered T L H m (groupStarts T L H m) (orderPart index) (numbersPart index)
+  pub tables : (n : Counts) → r ≡ Numbered n → SymbolsNumbered T L H m (groupStarts T L H m) (orderPart index) (partAt NUMBERS_AT (2 * ids) index)
 
 -- the list with them
 pub record ListEnd (C A : List ℕ) (f : Filling) (r : SymbolsEnd) (table tableAfter places placesAfter steps stepsAfter index : List ℕ) : Type 0 where
   pub positions : ℕ
   pub listed : SymbolsListed C A (staticsPart steps) (lateStepPart steps) f (idsPart tableAfter) (listPart stepsAfter) positions
   pub held : HoldersOf (symbolsIn (f .inputs .order) C A (staticsPart steps) (f .sources) (idsPart tableAfter)) (holdersPart placesAfter) positions
-  pub end : NumberedEnd (idsPart tableAfter) (listPart stepsAfter) (holdersPart placesAfter) positions (f .sources .statics) r index
+  pub end : NumberedEnd (idsPart tableAfter) (listPart stepsAfter) (holdersPart placesAfter) positions (idCount (f .sources)) (f .sources .statics) r index
   pub keptTable : KeptBefore ROWS_AT table tableAfter
   pub keptPlaces : KeptBefore HOLDERS_AT places placesAfter
   pub keptSteps : KeptBefore LIST_AT steps stepsAfter

@@ -6,12 +6,12 @@ use mathlib.Core.List.{List}
 use lib.ListN.{length}
 use Rattle.base_lists.specs.Windows.{Within}
 use Rattle.base_fields.specs.declared.ByteOrder.{ByteOrder}
-use Rattle.base_scope.specs.Limits.{POSITION_TABLE}
+use Rattle.base_scope.specs.Limits.{ID_LIMIT}
 use Rattle.base_answers.specs.declared.Verdict.{Verdict}
 use Rattle.elf_symbols.specs.Symbols.{symbolCount, symbolName}
 use Rattle.blocks_places.specs.Places.{Place}
-use Rattle.base_buffers.specs.Parts.{KeptBefore}
-use Rattle.merge_buffers.specs.Buffers.{ROWS_AT, HOLDERS_AT, USED_AT, STATIC_AT, GLABELS_AT, LIST_AT, NUMBERS_AT, idsPart, holdersPart, lateStepPart, usedPart, staticsPart, glabelsPart, listPart, orderPart, numbersPart}
+use Rattle.base_buffers.specs.Parts.{partAt, KeptBefore}
+use Rattle.merge_buffers.specs.Buffers.{ROWS_AT, HOLDERS_AT, USED_AT, STATIC_AT, GLABELS_AT, LIST_AT, NUMBERS_AT, idsPart, holdersPart, lateStepPart, usedPart, staticsPart, glabelsPart, listPart, orderPart}
 use Rattle.merge_sections.specs.declared.Stage.{Stage}
 use Rattle.statics_walk.specs.declared.Listing.{Listing}
 use Rattle.statics_walk.specs.Walk.{staticsFault, statics}
@@ -58,15 +58,16 @@ pub record IdsHeldIn (s : Candidates) (m : ℕ) (before after : List ℕ) : Type
   pub held : HoldersOf s (holdersPart after) m
   pub kept : KeptBefore HOLDERS_AT before after
 
--- a table of positions has room for each listed id
-pub record IdRooms (L : List ℕ) (m : ℕ) : Type 0 where
-  pub word : (p : ℕ) → p < m → 2 * halfIn L p + 2 ≤ POSITION_TABLE
+-- the listed ids are among n, for which a table of positions has room
+pub record IdRooms (L : List ℕ) (m n : ℕ) : Type 0 where
+  pub low : (p : ℕ) → p < m → halfIn L p < n
+  pub few : n ≤ ID_LIMIT
 
 -- the order of the result by the tables T of id rows, L of positions and H of holders, over the index
 pub record OrderLeft (T L H : List ℕ) (m : ℕ) (after : List ℕ) : Type 0 where
   pub order : halvesIn (orderPart after) (length (orderIn T L H m RESULT-GROUPS)) ≡ orderIn T L H m RESULT-GROUPS
 
--- and the numbers behind it
-pub record NumbersLeft (T L H : List ℕ) (m : ℕ) (before after : List ℕ) : Type 0 where
-  pub numbers : IdsNumbered T L H m m (numbersPart after)
+-- and the numbers of n ids behind it
+pub record NumbersLeft (T L H : List ℕ) (m n : ℕ) (before after : List ℕ) : Type 0 where
+  pub numbers : IdsNumbered T L H m m (partAt NUMBERS_AT (2 * n) after)
   pub kept : KeptBefore NUMBERS_AT before after

@@ -1,7 +1,7 @@
 // The symbols of a merge behind its late step, in document 01's order of refusals: 15 and 16, 17, then 18 and 19 over the list, and the numbers of the result. Tables stand in
 // the working buffers of `merge_buffers`; what each function leaves in them is in specs/Stage.antt. `merge_symbols` equals `symbolStagesVerdict` of specs/Verdict.antt.
 ghost use mathlib.Core.Path.{_≡_};
-ghost use Prim.Native.Nat.{_≤_};
+ghost use Prim.Native.Nat.{_*_, _≤_};
 ghost use lib.ListN.{length, getD};
 ghost use Rattle.base_lists.specs.Windows.{Within};
 ghost use Rattle.base_scope.specs.Limits.{FILE_LIMIT, HEAD_LIMIT, ID_LIMIT};
@@ -19,7 +19,8 @@ ghost use Rattle.symbols_taken.specs.Code.{usedBytes, LateIn, takenIn};
 ghost use Rattle.symbols_holders.specs.Ready.{symbolsIn, HoldersReady};
 ghost use Rattle.symbols_numbers.specs.Numbers.{Tables, HoldersFirst, groupStarts};
 ghost use Rattle.symbols_fill.specs.Fill.{FillReady};
-ghost use Rattle.merge_buffers.specs.Buffers.{BLOCK_BUFFER, PLACE_BUFFER, STEP_BUFFER, INDEX_BUFFER, blocksPart, idsPart, placesPart, lateStepPart, usedPart, staticsPart, listPart, namesPart, orderPart, numbersPart, BuffersHeld};
+ghost use Rattle.base_buffers.specs.Parts.{partAt};
+ghost use Rattle.merge_buffers.specs.Buffers.{BLOCK_BUFFER, PLACE_BUFFER, STEP_BUFFER, INDEX_BUFFER, NUMBERS_AT, blocksPart, idsPart, placesPart, lateStepPart, usedPart, staticsPart, listPart, namesPart, orderPart, BuffersHeld};
 ghost use Rattle.symbols_chain.specs.Chain.{SymbolsNumbered};
 ghost use Rattle.symbols_stage.specs.Stage.{SymbolsTaken, StaticsRead, GlabelsRead, IdsFilledIn, IdsListedIn, IdsHeldIn, IdRooms, OrderLeft, NumbersLeft};
 ghost use Rattle.symbols_stage.specs.End.{countsOf, fillingOf, NumberedEnd, ListEnd, StaticsEnd, StageEnd};
@@ -219,21 +220,22 @@ fn order_result(
     symbols_numbers::order_positions(rows, list, holders, m, starts, &mut index[from..to]);
 }
 
-// Leaves the numbers of the ids, behind the order.
+// Leaves the numbers of the ids, of which there are so many, behind the order.
 fn number_result(
     rows: &[u8],
     list: &[u8],
     holders: &[u8],
     m: usize,
     starts: [usize; symbols_numbers::STARTS],
+    ids: usize,
     index: &mut [u8],
 )
     requires { ⌜ Tables (now rows) (now list) (now holders) m × HoldersFirst (now list) (now holders) m × (starts ≡ groupStarts (now rows) (now list) (now holders) m)
-        × IdRooms (now list) m × (INDEX_BUFFER ≤ length (now index)) ⌝ }
-    ensures { λ _. ⌜ NumbersLeft (now (rows .entry)) (now (list .entry)) (now (holders .entry)) m (now (index .entry)) (now (index .exit)) ⌝ }
+        × IdRooms (now list) m ids × (INDEX_BUFFER ≤ length (now index)) ⌝ }
+    ensures { λ _. ⌜ NumbersLeft (now (rows .entry)) (now (list .entry)) (now (holders .entry)) m ids (now (index .entry)) (now (index .exit)) ⌝ }
 {
     let from = base_buffers::bound(merge_buffers::NUMBERS_AT);
-    let to = base_buffers::bound(merge_buffers::SPANS_AT);
+    let to = base_buffers::bound(merge_buffers::NUMBERS_AT + 2 * ids);
     symbols_numbers::number_ids(rows, list, holders, m, starts, &mut index[from..to]);
 }
 
@@ -243,14 +245,15 @@ fn number_positions(
     list: &[u8],
     holders: &[u8],
     m: usize,
+    ids: usize,
     index: &mut [u8],
 ) -> [usize; symbols_numbers::STARTS]
-    requires { ⌜ Tables (now rows) (now list) (now holders) m × HoldersFirst (now list) (now holders) m × IdRooms (now list) m × (INDEX_BUFFER ≤ length (now index)) ⌝ }
-    ensures { λ r. ⌜ SymbolsNumbered (now (rows .entry)) (now (list .entry)) (now (holders .entry)) m r (orderPart (now (index .exit))) (numbersPart (now (index .exit))) ⌝ }
+    requires { ⌜ Tables (now rows) (now list) (now holders) m × HoldersFirst (now list) (now holders) m × IdRooms (now list) m ids × (INDEX_BUFFER ≤ length (now index)) ⌝ }
+    ensures { λ r. ⌜ SymbolsNumbered (now (rows .entry)) (now (list .entry)) (now (holders .entry)) m r (orderPart (now (index .exit))) (partAt NUMBERS_AT (2 * ids) (now (index .exit))) ⌝ }
 {
     let starts = symbols_numbers::group_starts(rows, list, holders, m);
     order_result(rows, list, holders, m, starts, index);
-    number_result(rows, list, holders, m, starts, index);
+    number_result(rows, list, holders, m, starts, ids, index);
     starts
 }
 
@@ -284,18 +287,19 @@ fn counts_of(statics: usize, starts: [usize; symbols_numbers::STARTS]) -> Counts
 // Refusals 18 and 19 over the m positions of the list, then the numbers.
 fn number_list(
     statics: usize,
+    ids: usize,
     m: usize,
     rows: &[u8],
     list: &[u8],
     holders: &[u8],
     index: &mut [u8],
 ) -> SymbolsEnd
-    requires { ⌜ Tables (now rows) (now list) (now holders) m × HoldersFirst (now list) (now holders) m × IdRooms (now list) m × (INDEX_BUFFER ≤ length (now index)) ⌝ }
-    ensures { λ r. ⌜ NumberedEnd (now (rows .entry)) (now (list .entry)) (now (holders .entry)) m statics r (now (index .exit)) ⌝ }
+    requires { ⌜ Tables (now rows) (now list) (now holders) m × HoldersFirst (now list) (now holders) m × IdRooms (now list) m ids × (INDEX_BUFFER ≤ length (now index)) ⌝ }
+    ensures { λ r. ⌜ NumberedEnd (now (rows .entry)) (now (list .entry)) (now (holders .entry)) m ids statics r (now (index .exit)) ⌝ }
 {
     match symbols_rows::symbols_verdict(rows, list, holders, m) {
         Verdict::Passed => {
-            let starts = number_positions(rows, list, holders, m, index);
+            let starts = number_positions(rows, list, holders, m, ids, index);
             SymbolsEnd::Numbered(counts_of(statics, starts))
         }
         Verdict::Refused(number, object, place) => SymbolsEnd::Refused(number, object, place),
@@ -326,7 +330,8 @@ fn merge_list<'a>(
         base_scope::POSITION_TABLE,
     );
     let sources = filling.sources;
-    number_list(sources.statics, m, rows, list, holders, index)
+    let ids = symbols_fill::id_count(sources);
+    number_list(sources.statics, ids, m, rows, list, holders, index)
 }
 
 // What the rows are filled by, behind the statics.

@@ -2,6 +2,7 @@
 use native.Mathlib.Omega.{arith}
 use denote.Ref.{now}
 use Rattle.symbols_stage.proofs.End.{list-hold, list-number, list-end}
+use Rattle.symbols_fill.proofs.Filled.{ids-few}
 use borrow.Author.Needs.{needs}
 use Rattle.symbols_stage.proofs.merge_list.Statement.{statement}
 use Rattle.symbols_stage.proofs.merge_list.Tie as tie
@@ -31,16 +32,22 @@ part-requires-3 c κs =
     let pre = c .before .before .before .before .before .before .before .before .before .before .before .before .before .before .before .before .before .before .before .before .before .before .before .before .before .before .before .pre in
     omega (arith, hold-symbols .ensures .kept .long, pre .1 .places-long)
 
+id-count-requires : tie.Need-id-count-requires
+id-count-requires c κs =
+    let args = c .before .before .before .before .before .before .before .before .before .before .before .before .before .before .before .before .before .before .before .before .before .before .before .before .before .before .before .before .before .args in
+    let pre = c .before .before .before .before .before .before .before .before .before .before .before .before .before .before .before .before .before .before .before .before .before .before .before .before .before .before .before .before .before .pre in
+    ids-few (now (args .compiled)) (now (args .assembled)) _ _ (args .filling) (pre .0 .places)
+
 number-list-requires : tie.Need-number-list-requires
 number-list-requires c κs =
-    let args = c .before .before .before .before .before .before .before .before .before .before .before .before .before .before .before .before .before .before .before .before .before .before .before .before .before .before .before .before .before .before .args in
-    let list-symbols = c .before .before .before .before .before .before .before .before .before .before .before .before .before .before .before .before .before .before .before .before .before .list-symbols in
-    let hold-symbols = c .before .before .before .before .before .before .before .before .before .before .before .before .hold-symbols in
-    let pre = c .before .before .before .before .before .before .before .before .before .before .before .before .before .before .before .before .before .before .before .before .before .before .before .before .before .before .before .before .before .before .pre in
-    let part = c .before .before .before .before .before .before .part in
-    let part2 = c .before .before .before .before .part2 in
-    let part3 = c .before .before .part3 in
-    list-number (now (args .compiled)) (now (args .assembled)) (args .filling) _ (now (args .table)) _ (now (args .steps)) _ (list-symbols .ensures) (now (args .places)) _ (hold-symbols .ensures) _ (now (args .index)) (hold-symbols .last .1 .1 .1 .1 .1 .1 .1 .0) (pre .0) (pre .1) (hold-symbols .kept .1 .1 .1 .1 .1 .1 .1 .0) _ _ _ (part .ensures) (part2 .ensures) (part3 .ensures)
+    let args = c .before .before .before .before .before .before .before .before .before .before .before .before .before .before .before .before .before .before .before .before .before .before .before .before .before .before .before .before .before .before .before .args in
+    let list-symbols = c .before .before .before .before .before .before .before .before .before .before .before .before .before .before .before .before .before .before .before .before .before .before .list-symbols in
+    let hold-symbols = c .before .before .before .before .before .before .before .before .before .before .before .before .before .hold-symbols in
+    let pre = c .before .before .before .before .before .before .before .before .before .before .before .before .before .before .before .before .before .before .before .before .before .before .before .before .before .before .before .before .before .before .before .pre in
+    let part = c .before .before .before .before .before .before .before .part in
+    let part2 = c .before .before .before .before .before .part2 in
+    let part3 = c .before .before .before .part3 in
+    rw (c .before .id-count .ensures) (list-number (now (args .compiled)) (now (args .assembled)) (args .filling) _ (now (args .table)) _ (now (args .steps)) _ (list-symbols .ensures) (now (args .places)) _ (hold-symbols .ensures) _ (now (args .index)) (hold-symbols .last .1 .1 .1 .1 .1 .1 .1 .0) (pre .0) (pre .1) (hold-symbols .kept .1 .1 .1 .1 .1 .1 .1 .0) _ _ _ (part .ensures) (part2 .ensures) (part3 .ensures))
 
 same-length : tie.Need-same-length
 same-length c = search needs
@@ -56,14 +63,14 @@ same-length-4 c = search needs
 
 returns : tie.Need-returns
 returns c =
-    let args = c .before .before .before .before .before .before .before .before .before .before .before .before .before .before .before .before .before .before .before .before .before .before .before .before .before .before .before .before .before .before .before .before .before .args in
-    let list-symbols = c .before .before .before .before .before .before .before .before .before .before .before .before .before .before .before .before .before .before .before .before .before .before .before .before .list-symbols in
-    let hold-symbols = c .before .before .before .before .before .before .before .before .before .before .before .before .before .before .before .hold-symbols in
-    let part = c .before .before .before .before .before .before .before .before .before .part in
-    let part2 = c .before .before .before .before .before .before .before .part2 in
-    let part3 = c .before .before .before .before .before .part3 in
+    let args = c .before .before .before .before .before .before .before .before .before .before .before .before .before .before .before .before .before .before .before .before .before .before .before .before .before .before .before .before .before .before .before .before .before .before .args in
+    let list-symbols = c .before .before .before .before .before .before .before .before .before .before .before .before .before .before .before .before .before .before .before .before .before .before .before .before .before .list-symbols in
+    let hold-symbols = c .before .before .before .before .before .before .before .before .before .before .before .before .before .before .before .before .hold-symbols in
+    let part = c .before .before .before .before .before .before .before .before .before .before .part in
+    let part2 = c .before .before .before .before .before .before .before .before .part2 in
+    let part3 = c .before .before .before .before .before .before .part3 in
     let number-list = c .before .before .number-list in
-    list-end (now (args .compiled)) (now (args .assembled)) (args .filling) _ (now (args .table)) _ (now (args .steps)) _ (list-symbols .ensures) (now (args .places)) _ (hold-symbols .ensures) _ _ _ _ _ (part .ensures) (part2 .ensures) (part3 .ensures) (number-list .ensures)
+    list-end (now (args .compiled)) (now (args .assembled)) (args .filling) _ (now (args .table)) _ (now (args .steps)) _ (list-symbols .ensures) (now (args .places)) _ (hold-symbols .ensures) _ _ _ _ _ (part .ensures) (part2 .ensures) (part3 .ensures) (rw (c .before .before .before .before .id-count .ensures) at (number-list .ensures))
 
 pub merge-list-spec : {M : Type 1} → statement M
 merge-list-spec =
@@ -74,6 +81,7 @@ merge-list-spec =
     part-requires
     part-requires-2
     part-requires-3
+    id-count-requires
     number-list-requires
     same-length
     same-length-2

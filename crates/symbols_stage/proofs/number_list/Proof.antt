@@ -35,14 +35,14 @@ returns c =
     let enum-told = c .before .before .before .before .before .enum-told in
     let number-positions = c .before .before .before .number-positions in
     let counts-of = c .counts-of in
-    end-numbered _ _ _ (args .m) (args .statics) _ (symbols-verdict .ensures) _ (enum-told .given .1) _ (number-positions .ensures) _ (counts-of .ensures)
+    end-numbered _ _ _ (args .m) (args .ids) (args .statics) _ (symbols-verdict .ensures) _ (enum-told .given .1) _ (number-positions .ensures) _ (counts-of .ensures)
 
 returns-2 : tie.Need-returns-2
 returns-2 c =
     let args = c .before .before .before .before .before .before .before .before .args in
     let symbols-verdict = c .before .before .before .symbols-verdict in
     let number = c .before .number in
-    end-refused _ _ _ (args .m) (args .statics) _ (symbols-verdict .ensures) _ _ _ _ (number .given .1)
+    end-refused _ _ _ (args .m) (args .ids) (args .statics) _ (symbols-verdict .ensures) _ _ _ _ (number .given .1)
 
 pub number-list-spec : {M : Type 1} → statement M
 number-list-spec =

@@ -21,7 +21,7 @@ returns c =
     let group-starts = c .before .before .before .before .before .before .before .before .group-starts in
     let order-result = c .before .before .before .before .before .before .order-result in
     let number-result = c .before .before .number-result in
-    numbered-of _ _ _ _ _ _ _ (group-starts .ensures) (order-result .ensures) (number-result .ensures)
+    numbered-of _ _ _ _ _ _ _ _ (group-starts .ensures) (order-result .ensures) (number-result .ensures)
 
 pub number-positions-spec : {M : Type 1} → statement M
 number-positions-spec =

@@ -2,11 +2,18 @@
 use denote.Ref.{now}
 use Rattle.symbols_stage.proofs.Stage.{number-room, numbers-of}
 use borrow.Author.Needs.{needs}
+use native.Mathlib.Omega.{arith}
 use Rattle.symbols_stage.proofs.number_result.Statement.{statement}
 use Rattle.symbols_stage.proofs.number_result.Tie as tie
 
 bound-requires : tie.Need-bound-requires
 bound-requires c κs = search needs
+
+mul-bound : tie.Need-mul-bound
+mul-bound c = omega (arith, c .before .before .before .before .before .pre .3 .few)
+
+add-bound : tie.Need-add-bound
+add-bound c = omega (arith, c .before .before .before .before .before .pre .3 .few)
 
 bound-requires-2 : tie.Need-bound-requires-2
 bound-requires-2 c κs = search needs
@@ -26,7 +33,7 @@ number-ids-requires c κs =
     let args = c .before .before .before .before .before .before .before .args in
     let bound = c .before .before .bound in
     let bound2 = c .before .bound2 in
-    (pre .0, pre .1, pre .2, number-room (now (args .rows)) (now (args .list)) (now (args .holders)) (args .m) _ _ (now (args .index)) (pre .4) (bound .ensures) (bound2 .ensures) (pre .3))
+    (pre .0, pre .1, pre .2, number-room (now (args .rows)) (now (args .list)) (now (args .holders)) (args .m) _ _ (now (args .index)) (pre .4) (args .ids) (pre .3) (bound .ensures) (bound2 .ensures))
 
 same-length : tie.Need-same-length
 same-length c = search needs
@@ -38,13 +45,15 @@ returns c =
     let bound = c .before .before .before .before .before .bound in
     let bound2 = c .before .before .before .before .bound2 in
     let number-ids = c .before .before .number-ids in
-    numbers-of (now (args .rows)) (now (args .list)) (now (args .holders)) (args .m) _ _ (now (args .index)) (pre .4) (bound .ensures) (bound2 .ensures) _ (number-ids .kept .1 .1 .1 .1 .1 .0) (number-ids .ensures)
+    numbers-of (now (args .rows)) (now (args .list)) (now (args .holders)) (args .m) _ _ (now (args .index)) (pre .4) (args .ids) (pre .3) (bound .ensures) (bound2 .ensures) _ (number-ids .kept .1 .1 .1 .1 .1 .0) (number-ids .ensures)
 
 pub number-result-spec : {M : Type 1} → statement M
 number-result-spec =
     tie.close
     (tie.spec
     bound-requires
+    mul-bound
+    add-bound
     bound-requires-2
     sub-number-ids
     part-number-ids-start
