@@ -11,7 +11,7 @@ use Rattle.base_lists.specs.Ranges.{first}
 use Rattle.base_lists.proofs.Ranges.{by-test, by-lt, by-last, first-here, first-next, first-end, first-ext}
 use Rattle.base_index.specs.Index.{BUCKETS, bucketsOf, bucketOf, nextPlace, headPlace, Room, hashIn, nextIn, headIn, inBucket, Built, Emptied, linked}
 use Rattle.base_index.proofs.Table.{withNumber, number-long, hash-before, next-same, next-other, next-not-head, head-same, head-other, head-not-next}
-use Rattle.base_index.proofs.Index.{bucket-low, in-bucket, not-in-bucket, bucket-same}
+use Rattle.base_index.proofs.Index.{buckets-bound, bucket-low, in-bucket, not-in-bucket, bucket-same}
 
 pub room-same : (capacity : ℕ) (T U : List ℕ) → length U ≡ length T → Room capacity T → Room capacity U
 room-same capacity T U e r = record { few = r .few; long = rw e (r .long) }
@@ -74,7 +74,7 @@ module _ (capacity n j : ℕ) (T U : List ℕ) (room : Room capacity U) (l : j <
   inside = bucket-low n (hashIn U j)
 
   small : b < BUCKETS
-  small = omega (arith, inside)
+  small = omega (arith, inside, buckets-bound n .1)
 
   fits : nextPlace capacity j + 2 ≤ length U
   fits = omega (arith, room .long)

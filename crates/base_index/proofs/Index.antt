@@ -1,19 +1,46 @@
 -- The walk through a bucket finds what a search over all items finds: an item that passes the test has the hash h, so it is in h's bucket, and the search may pass over
 -- the items of other buckets. Assumes nothing.
-use Prim.Native.Nat.{ℕ, _+_, _≤_, _<_}
+use Prim.Native.Nat.{ℕ, _+_, _%_, _≤_, _<_}
 use mathlib.Core.Path.{_≡_, refl, ap, _∙_}
 use mathlib.Core.Bool.{Bool, true, false}
 use mathlib.Core.List.{List}
 use native.Mathlib.Nat.{mod-lt}
 use native.Mathlib.Omega.{arith}
-use borrow.Author.Tests.{eq-eqb, ne-eqb, eqb-true}
+use borrow.Author.Tests.{eq-eqb, ne-eqb, eqb-true, lt-ltb, le-ltb}
 use Rattle.base_lists.specs.Ranges.{first, IsFirst}
-use Rattle.base_lists.proofs.Ranges.{by-test, both, first-is, first-over, first-here, first-next, first-end, first-low}
-use Rattle.base_index.specs.Index.{bucketsOf, bucketOf, hashIn, nextIn, headIn, inBucket, Indexed}
+use Rattle.base_lists.proofs.Ranges.{by-test, by-lt, both, first-is, first-over, first-here, first-next, first-end, first-low}
+use Rattle.base_index.specs.Index.{BUCKETS, bucketsOf, bucketOf, hashIn, nextIn, headIn, inBucket, Indexed}
+
+-- 64 buckets, 1,024, or all
+pub buckets-64 : (n : ℕ) → n < 64 → 64 ≡ bucketsOf n
+unfolding bucketsOf
+buckets-64 n l = rw (lt-ltb n 64 l)
+
+pub buckets-1024 : (n : ℕ) → 64 ≤ n → n < 1024 → 1024 ≡ bucketsOf n
+unfolding bucketsOf
+buckets-1024 n m l = rw (le-ltb n 64 m, lt-ltb n 1024 l)
+
+pub buckets-all : (n : ℕ) → 1024 ≤ n → BUCKETS ≡ bucketsOf n
+unfolding bucketsOf
+buckets-all n m = let k : 64 ≤ n = omega arith in rw (le-ltb n 64 k, le-ltb n 1024 m)
+
+pub buckets-bound : (n : ℕ) → (0 < bucketsOf n) × (bucketsOf n ≤ BUCKETS)
+buckets-bound n = by-lt n 64
+    (λ l. rw (← buckets-64 n l) (omega arith, omega arith))
+    (λ m. by-lt n 1024
+    (λ l. rw (← buckets-1024 n m l) (omega arith, omega arith))
+    (λ k. rw (← buckets-all n k) (omega arith, omega arith)))
 
 pub bucket-low : (n h : ℕ) → bucketOf n h < bucketsOf n
 unfolding bucketOf
-bucket-low n h = let p : 0 < bucketsOf n = omega arith in mod-lt h p
+bucket-low n h = mod-lt h (buckets-bound n .0)
+
+-- the bucket of a hash, by how many buckets there are
+pub bucket-by : (n h m r : ℕ) → m ≡ bucketsOf n → r ≡ h % m → (r ≡ bucketOf n h) × (r < BUCKETS)
+unfolding bucketOf
+bucket-by n h m r e f =
+    let q : r ≡ bucketOf n h = f ∙ ap (λ (k : ℕ). h % k) e in
+    (q, omega (arith, q, bucket-low n h, buckets-bound n .1))
 
 -- an item is in the bucket of its hash alone
 module _ (n : ℕ) (T : List ℕ) (b k : ℕ) where

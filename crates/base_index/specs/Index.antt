@@ -1,12 +1,12 @@
--- Of the code, not of document 01: an index of items by a hash each, in one table. A bucket has the items whose hashes agree modulo the number of buckets, which is about
--- that of the items, so that few items cost little; for each bucket the table has its first item, and for each item the next one of its bucket. Hashes decide no answer: they
+-- Of the code, not of document 01: an index of items by a hash each, in one table. A bucket has the items whose hashes agree modulo the number of buckets, which is one of
+-- three by how many items there are, so that few items cost little; for each bucket the table has its first item, and for each item the next one of its bucket. Hashes decide no answer: they
 -- only say which items a search may pass over.
-use Prim.Native.Nat.{ℕ, min, _+_, _*_, _%_, _^_, _≤_, _<_}
+use Prim.Native.Nat.{ℕ, _+_, _*_, _%_, _^_, _≤_, _<_}
 use mathlib.Core.Path.{_≡_}
-use mathlib.Core.Bool.{Bool}
+use mathlib.Core.Bool.{Bool, cond}
 use mathlib.Core.List.{List, [], _∷_}
 use lib.ListN.{length, take}
-use lib.Dec.{eqb}
+use lib.Dec.{eqb, ltb}
 use Rattle.base_lists.specs.Ranges.{first}
 use Rattle.base_lists.specs.Windows.{spliced}
 use Rattle.base_fields.specs.declared.ByteOrder.the-variants.{Big}
@@ -40,9 +40,9 @@ hashStart n = n % 2 ^ 16
 unfoldable pub hashOf : List ℕ → ℕ
 hashOf s = mixed (hashStart (length s)) (take HASH_BYTES s)
 
--- how many buckets n items have, and the bucket of a hash among them
-abbrev pub bucketsOf : ℕ → ℕ
-bucketsOf n = min (n + 1) BUCKETS
+-- how many buckets n items have, a power of two, and the bucket of a hash among them
+unfoldable pub bucketsOf : ℕ → ℕ
+bucketsOf n = cond (ltb n 64) 64 (cond (ltb n 1024) 1024 BUCKETS)
 
 unfoldable pub bucketOf : ℕ → ℕ → ℕ
 bucketOf n h = h % bucketsOf n

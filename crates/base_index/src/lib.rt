@@ -105,8 +105,11 @@ pub fn hash_joined(front: &[u8], back: &[u8]) -> u32
 fn buckets_of(n: usize) -> usize
     ensures { λ r. ⌜ (r ≡ bucketsOf n) × (1 ≤ r) × (r ≤ BUCKETS) ⌝ }
 {
-    if n < BUCKETS {
-        return n + 1;
+    if n < 64 {
+        return 64;
+    }
+    if n < 1024 {
+        return 1024;
     }
     BUCKETS
 }
@@ -115,7 +118,13 @@ fn buckets_of(n: usize) -> usize
 fn bucket_of(n: usize, h: u32) -> usize
     ensures { λ r. ⌜ (r ≡ bucketOf n h) × (r < BUCKETS) ⌝ }
 {
-    h as usize % buckets_of(n)
+    if n < 64 {
+        return h as usize % 64;
+    }
+    if n < 1024 {
+        return h as usize % 1024;
+    }
+    h as usize % BUCKETS
 }
 
 // Where the next of item k stands.

@@ -1,7 +1,7 @@
 -- The carried tables in their order: a turn lists one table or none behind those before it, so the turns of a rank list its tables, and the ranks are all of them. Each
 -- carried table stands in the order once. Assumes nothing.
 use Prim.Native.Nat.{ℕ, _+_, _-_, _*_, _≤_, _<_}
-use mathlib.Core.Path.{_≡_, sym, ap, _∙_}
+use mathlib.Core.Path.{_≡_, refl, sym, ap, _∙_}
 use mathlib.Core.Bool.{Bool, true, false}
 use mathlib.Core.Logic.{inl}
 use mathlib.Core.List.{List}
@@ -28,7 +28,7 @@ use Rattle.elf_check.specs.declared.View.{View}
 use Rattle.elf_check.specs.View.{viewOf}
 use Rattle.symbols_taken.specs.Used.{isSectionOf, codeOf, isSource, isSourceTable}
 use Rattle.symbols_taken.specs.Code.{codeIn}
-use Rattle.symbols_taken.proofs.Sections.{code-is}
+use Rattle.symbols_taken.proofs.Sections.{code-is, table-none}
 use Rattle.symbols_numbers.proofs.Counts.{grouped-few}
 use Rattle.carry_clash.specs.Clash.{carriedCode, isCarried}
 use Rattle.carry_homes.specs.Homes.{carriedRank, CARRIED_RANKS, carriedTables, carriedCount, carriedTable}
@@ -258,3 +258,8 @@ module _ (o : ByteOrder) (A : List ℕ) where
     pub rank-told : a ≡ true → (c : ℕ) → c ≡ carriedCode o A t → (x : ℕ) → x ≡ carriedRank c → eqb x g ≡ inRank o A g t
     unfolding inRank inGroup
     rank-told y c q x p = rw (sym e ∙ y, p, q)
+
+  -- what is no table is not carried
+  pub rank-plain : (g t : ℕ) (a : Bool) → a ≡ isTable o A t → a ≡ false → false ≡ inRank o A g t
+  unfolding isCarried
+  rank-plain g t a e f = rank-none g t false (rw (← table-none o A t (sym e ∙ f))) refl

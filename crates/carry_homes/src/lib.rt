@@ -62,8 +62,11 @@ fn is_in_rank(order: ByteOrder, assembled: &[u8], source: View, rank: usize, t: 
     requires { ⌜ Viewed order (now assembled) source × (t < sectionCount order (now assembled)) ⌝ }
     ensures { λ r. ⌜ r ≡ inRank order (now (assembled .entry)) rank t ⌝ }
 {
-    if carry_clash::is_carried(order, assembled, source, t) {
-        return carried_rank(carried_code(order, assembled, source, t)) == rank;
+    if elf_relocations::is_table(order, assembled, t) {
+        if carry_clash::is_carried(order, assembled, source, t) {
+            return carried_rank(carried_code(order, assembled, source, t)) == rank;
+        }
+        return false;
     }
     false
 }

@@ -1,25 +1,24 @@
--- A rest is less than what it is a rest by. Assumes nothing.
-use Rattle.base_index.specs.Index.{bucketOf}
-use Rattle.base_index.proofs.Index.{bucket-low}
-use native.Mathlib.Omega.{arith}
-use Prim.Native.Nat.{ℕ, _%_}
-use mathlib.Core.Path.{_≡_, ap}
+-- The rest by as many buckets as there are. Assumes nothing.
+use mathlib.Core.Path.{refl}
 use borrow.Author.Needs.{needs}
+use Rattle.base_index.proofs.Index.{buckets-64, buckets-1024, buckets-all, bucket-by}
 use Rattle.base_index.proofs.bucket_of.Statement.{statement}
 use Rattle.base_index.proofs.bucket_of.Tie as tie
 
-buckets-of-requires : tie.Need-buckets-of-requires
-buckets-of-requires c κs = search needs
-
-rem-result : tie.Need-rem-result
-rem-result c = search needs
-
 returns : tie.Need-returns
-unfolding bucketOf
 returns c =
     let a = c .before .args in
-    let e : a .h % c .buckets-of .result ≡ bucketOf (a .n) (a .h) = ap (λ (m : ℕ). a .h % m) (c .buckets-of .ensures .0) in
-    (e, omega (arith, e, bucket-low (a .n) (a .h)))
+    bucket-by (a .n) (a .h) 64 _ (buckets-64 (a .n) (c .if1 .taken)) refl
+
+returns-2 : tie.Need-returns-2
+returns-2 c =
+    let a = c .before .before .args in
+    bucket-by (a .n) (a .h) 1024 _ (buckets-1024 (a .n) (c .before .if1 .left) (c .if2 .taken)) refl
+
+returns-3 : tie.Need-returns-3
+returns-3 c =
+    let a = c .before .before .args in
+    bucket-by (a .n) (a .h) 4096 _ (buckets-all (a .n) (c .if2 .left)) refl
 
 pub bucket-of-spec : {M : Type 1} → statement M
-bucket-of-spec = tie.close (tie.spec buckets-of-requires rem-result returns)
+bucket-of-spec = tie.close (tie.spec returns returns-2 returns-3)
