@@ -1,16 +1,19 @@
-// Byte strings and the names of string tables: where a name ends, the name as a part of its table, and comparisons. Each equals its
-// definition in the crate base_lists, specs/Strings.antt: comparisons are equations of lists, so a zero byte in a compared string is a byte
-// like any other.
+// Byte strings and the names of string tables: where a byte stands first, where a name ends, the name as a part of its table, and comparisons. Each equals its
+// definition, here in specs/ or in the crate base_lists, specs/Strings.antt: comparisons are equations of lists, so a zero byte in a compared string is a byte like
+// any other.
 ghost use mathlib.Core.Path.{_≡_};
 ghost use mathlib.Core.Bool.{not, _&&_};
 ghost use mathlib.Core.List.{_++_};
-ghost use Prim.Native.Nat.{_+_, _≤_};
+ghost use Prim.Native.Nat.{_+_, _/_, _≤_};
 ghost use lib.ListN.{length, take, drop};
+ghost use lib.Count.{trailingZeros};
 ghost use lib.Dec.{eqb, ltb};
 ghost use Rattle.base_lists.specs.Ranges.{pastLast};
 ghost use Rattle.base_lists.specs.Strings.{same, prefixed, zeroAt, nameEnd, nameAt, ascii};
 ghost use Rattle.base_names.specs.Ends.{endsApart};
 ghost use Rattle.base_names.specs.Tables.{tableOf};
+ghost use Rattle.base_names.specs.Words.{firstByte, wordAt, byteMarks};
+use base_fields::ByteOrder;
 
 // The object that a name comes from.
 pub enum Owner {
@@ -36,17 +39,58 @@ fn has_zero(t: &[u8], at: usize, n: usize) -> bool
     hit
 }
 
-// The name at `at` passed over 8 bytes at a time, as long as no zero is among them: less than 8 bytes of it are left. Most names have less than 16.
-fn near_end(t: &[u8], at: usize) -> usize
-    ensures { λ r. ⌜ nameEnd (now (t .entry)) at ≡ nameEnd (now (t .entry)) r ⌝ }
+// The eight bytes at `at` as a number; the compiler makes one read of it.
+fn word_at(t: &[u8], at: usize) -> u64
+    requires { ⌜ at + 8 ≤ length (now t) ⌝ }
+    ensures { λ r. ⌜ r ≡ wordAt (now (t .entry)) at 8 ⌝ }
+{
+    let low = base_fields::read32(ByteOrder::Little, t, at);
+    let high = base_fields::read32(ByteOrder::Little, t, at + 4);
+    high as u64 * 4294967296 + low as u64
+}
+
+// A mark in each byte of a word that is the byte looked for.
+fn byte_marks(word: u64, byte: u8) -> u64
+    ensures { λ r. ⌜ r ≡ byteMarks byte 8 word ⌝ }
+{
+    let x = word ^ (byte as u64 * 0x0101010101010101);
+    let sum = (x & 0x7f7f7f7f7f7f7f7f) + 0x7f7f7f7f7f7f7f7f;
+    ((sum | x) ^ 0xffffffffffffffff) & 0x8080808080808080
+}
+
+// Which byte of a word has the lowest mark; the word has one.
+fn first_mark(marks: u64) -> usize
+    ensures { λ r. ⌜ r ≡ trailingZeros 64 marks / 8 ⌝ }
+{
+    (u64::trailing_zeros(marks) / 8) as usize
+}
+
+// Where a byte stands first from `at` on, byte by byte.
+fn first_by_bytes(t: &[u8], at: usize, byte: u8) -> usize
+    ensures { λ r. ⌜ r ≡ firstByte (now (t .entry)) byte at ⌝ }
+{
+    let mut i = at;
+    while i < t.len() {
+        if t[i] == byte {
+            return i;
+        }
+        i += 1;
+    }
+    i
+}
+
+// Where a byte stands first from `at` on, or the end: eight bytes at a time, so that one branch decides for all of them.
+pub fn first_byte(t: &[u8], at: usize, byte: u8) -> usize
+    ensures { λ r. ⌜ r ≡ firstByte (now (t .entry)) byte at ⌝ }
 {
     let mut i = at;
     while i < t.len() {
         if t.len() - i < 8 {
-            return i;
+            return first_by_bytes(t, i, byte);
         }
-        if has_zero(t, i, 8) {
-            return i;
+        let marks = byte_marks(word_at(t, i), byte);
+        if marks != 0 {
+            return i + first_mark(marks);
         }
         i += 8;
     }
@@ -57,14 +101,7 @@ fn near_end(t: &[u8], at: usize) -> usize
 pub fn end_of(t: &[u8], at: usize) -> usize
     ensures { λ r. ⌜ r ≡ nameEnd (now (t .entry)) at ⌝ }
 {
-    let mut i = near_end(t, at);
-    while i < t.len() {
-        if t[i] == 0 {
-            return i;
-        }
-        i += 1;
-    }
-    i
+    first_byte(t, at, 0)
 }
 
 // The name at `at`, as a part of its table; empty where `at` lies past the end.

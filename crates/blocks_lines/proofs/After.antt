@@ -1,37 +1,19 @@
 -- The laws of a test of a line that answers where the next one starts. Assumes nothing.
 use Prim.Native.Nat.{ℕ, _+_, _-_, _≤_, _<_}
 use mathlib.Core.Path.{_≡_, sym, ap, _∙_}
-use mathlib.Core.Bool.{Bool, true, false, _&&_, cond}
+use mathlib.Core.Bool.{true, false}
 use mathlib.Core.List.{List}
 use native.Mathlib.Omega.{arith}
 use lib.ListN.{length, take, drop}
 use lib.Dec.{ltb}
 use borrow.Author.Tests.{lt-ltb}
 use Rattle.base_lists.specs.Strings.{prefixed}
-use Rattle.base_lists.proofs.Ranges.{by-test, both}
+use Rattle.base_lists.proofs.Ranges.{by-test}
 use Rattle.blocks_lines.specs.Lines.{lineEnd, next}
-use Rattle.blocks_lines.specs.Keys.{keyName, valueSound, isKeyLine}
+use Rattle.blocks_lines.specs.Keys.{KEYS, keyName, valueSound, isKeyLine}
 use Rattle.blocks_lines.specs.After.{lineAfter}
-use Rattle.blocks_lines.proofs.Lines.{next-low}
-use Rattle.blocks_lines.proofs.Keys.{key-line-at, key-line-not}
-
--- e is the end of the line at a
-module _ (B : List ℕ) (k a e : ℕ) (is : e ≡ lineEnd B a) where
-  -- the line's text decides
-  abbrev told : Bool
-  told = prefixed (keyName k) (take (e - a) (drop a B)) && valueSound k (drop (length (keyName k)) (take (e - a) (drop a B)))
-
-  pub after-yes : e < length B → true ≡ told → e + 1 ≡ lineAfter B k a
-  unfolding lineAfter next
-  after-yes h t = rw (sym (key-line-at B k a e is h), sym t, is)
-
-  pub after-no : e < length B → false ≡ told → 0 ≡ lineAfter B k a
-  unfolding lineAfter
-  after-no h t = rw (sym (key-line-at B k a e is h), sym t)
-
-  pub after-short : length B ≤ e → 0 ≡ lineAfter B k a
-  unfolding lineAfter
-  after-short h = rw (key-line-not B k a (omega arith))
+use Rattle.blocks_lines.proofs.Lines.{end-low, lt-whole, next-low}
+use Rattle.blocks_lines.proofs.Keys.{key-line-not, key-line-other, key-line-from}
 
 module _ (B : List ℕ) (k a : ℕ) where
   pub after-line : isKeyLine B k a ≡ true → lineAfter B k a ≡ next B a
@@ -41,6 +23,33 @@ module _ (B : List ℕ) (k a : ℕ) where
   pub after-none : isKeyLine B k a ≡ false → lineAfter B k a ≡ 0
   unfolding lineAfter
   after-none t = rw t
+
+  -- the tests, one by one
+  pub after-past : length B ≤ a → lineAfter B k a ≡ 0
+  after-past h = after-none (key-line-not B k a (omega (arith, end-low B a)))
+
+  pub after-other : prefixed (keyName k) (drop a B) ≡ false → lineAfter B k a ≡ 0
+  after-other f = after-none (key-line-other B k a f)
+
+  -- the key is there, its value begins at b and ends at e
+  module _ (h : a < length B) (t : prefixed (keyName k) (drop a B) ≡ true) (u : k < KEYS) (b e : ℕ) (from : b ≡ a + length (keyName k)) (is : e ≡ lineEnd B b) where
+    abbrev value : List ℕ
+    value = take (e - b) (drop b B)
+
+    pub after-short : length B ≤ e → lineAfter B k a ≡ 0
+    after-short l = after-none (key-line-not B k a (omega (arith, key-line-from B k a h t u b e from is .0, l)))
+
+    whole-told : e < length B → isKeyLine B k a ≡ valueSound k value
+    whole-told l =
+        let r = key-line-from B k a h t u b e from is in
+        r .1 ∙ rw (lt-whole B a (omega (arith, r .0, l)))
+
+    pub after-yes : e < length B → valueSound k value ≡ true → lineAfter B k a ≡ e + 1
+    unfolding next
+    after-yes l s = after-line (whole-told l ∙ s) ∙ ap (λ (n : ℕ). n + 1) (key-line-from B k a h t u b e from is .0)
+
+    pub after-no : e < length B → valueSound k value ≡ false → lineAfter B k a ≡ 0
+    after-no l s = after-none (whole-told l ∙ s)
 
   -- no line starts at 0 behind another, so the answer tells whether a line of the key stands at a
   pub after-told : ltb 0 (lineAfter B k a) ≡ isKeyLine B k a

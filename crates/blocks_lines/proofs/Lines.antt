@@ -1,7 +1,7 @@
--- The laws of lines: the turns of the loop that looks for an LF, where a line's end lies, and how the line number grows. A line's end is a first
+-- The laws of lines: that a line ends at the first LF, where that lies, and how the line number grows. A line's end is a first
 -- index, so each comes from the laws of first indices and of counts. Assumes nothing.
 use Prim.Native.Nat.{ℕ, _+_, _-_, _≤_, _<_}
-use mathlib.Core.Path.{_≡_, sym, ap, _∙_}
+use mathlib.Core.Path.{_≡_, refl, sym, ap, _∙_}
 use mathlib.Core.Bool.{true, false}
 use mathlib.Core.List.{List, []}
 use native.Mathlib.Omega.{arith}
@@ -9,7 +9,8 @@ use lib.ListN.{length, drop, getD, drop-of-length-le, length-drop}
 use lib.Seq.{take-nil, length-take-le}
 use borrow.Author.Tests.{eq-eqb, ne-eqb, ltb-true, lt-ltb, le-ltb}
 use Rattle.base_lists.specs.Ranges.{count, IsFirst}
-use Rattle.base_lists.proofs.Ranges.{first-here, first-next, first-end, first-is, first-low, first-high, count-yes, count-skip}
+use Rattle.base_lists.proofs.Ranges.{first-end, first-is, first-low, first-high, count-yes, count-skip}
+use Rattle.base_names.specs.Words.{byteAt, firstByte}
 use Rattle.blocks_lines.specs.Lines.{feedAt, lineEnd, isWhole, line, next, lineNumber}
 
 module _ (B : List ℕ) where
@@ -21,14 +22,9 @@ module _ (B : List ℕ) where
   unfolding feedAt
   feed-false i d = ne-eqb _ _ d
 
-  -- the turns of a loop that looks for the LF
-  pub end-here : (i : ℕ) → i < length B → getD B i 0 ≡ 10 → lineEnd B i ≡ i
-  unfolding lineEnd
-  end-here i h e = first-here (feedAt B) i (length B) h (feed-true i e)
-
-  pub end-next : (i : ℕ) → i < length B → (getD B i 0 ≡ 10 → ⊥) → lineEnd B i ≡ lineEnd B (i + 1)
-  unfolding lineEnd
-  end-next i h d = first-next (feedAt B) i (length B) h (feed-false i d)
+  pub first-feed : (a : ℕ) → firstByte B 10 a ≡ lineEnd B a
+  unfolding firstByte byteAt lineEnd feedAt
+  first-feed a = refl
 
   pub end-past : (i : ℕ) → length B ≤ i → lineEnd B i ≡ i
   unfolding lineEnd

@@ -1,15 +1,12 @@
 // The lines of a block file: where they end, what their keys are and which value may stand behind each. Every function equals its definition in specs/.
 ghost use mathlib.Core.Path.{_≡_};
-ghost use mathlib.Core.Bool.{true, false, _&&_};
-ghost use Prim.Native.Nat.{_+_, _/_, _≤_, _<_};
-ghost use lib.ListN.{length, take, drop};
-ghost use lib.Count.{trailingZeros};
+ghost use mathlib.Core.Bool.{true};
+ghost use Prim.Native.Nat.{_≤_, _<_};
+ghost use lib.ListN.{length};
 ghost use Rattle.base_lists.specs.Strings.{prefixed};
 ghost use Rattle.blocks_lines.specs.Lines.{lineEnd, line, lineNumber};
-ghost use Rattle.blocks_lines.specs.Words.{wordAt, feedMarks};
 ghost use Rattle.blocks_lines.specs.Keys.{KEYS, keyName, repeats, valueSound, isKeyLine, valueAt};
 ghost use Rattle.blocks_lines.specs.After.{lineAfter};
-use base_fields::ByteOrder;
 
 // How many keys there are, and which are those behind the sections' (whose indices are the section codes).
 pub const KEYS: u32 = 11;
@@ -24,62 +21,11 @@ pub const KEY_ASM: u32 = 8;
 
 pub const KEY_LATE: u32 = 9;
 
-// The eight bytes at `at` as a number; the compiler makes one read of it.
-fn word_at(file: &[u8], at: usize) -> u64
-    requires { ⌜ at + 8 ≤ length (now file) ⌝ }
-    ensures { λ r. ⌜ r ≡ wordAt (now (file .entry)) at 8 ⌝ }
-{
-    let low = base_fields::read32(ByteOrder::Little, file, at);
-    let high = base_fields::read32(ByteOrder::Little, file, at + 4);
-    high as u64 * 4294967296 + low as u64
-}
-
-// A mark in each byte of a word that is an LF.
-fn feed_marks(word: u64) -> u64
-    ensures { λ r. ⌜ r ≡ feedMarks 8 word ⌝ }
-{
-    let x = word ^ 0x0a0a0a0a0a0a0a0a;
-    let sum = (x & 0x7f7f7f7f7f7f7f7f) + 0x7f7f7f7f7f7f7f7f;
-    ((sum | x) ^ 0xffffffffffffffff) & 0x8080808080808080
-}
-
-// Which byte of a word has the lowest mark; the word has one.
-fn first_mark(marks: u64) -> usize
-    ensures { λ r. ⌜ r ≡ trailingZeros 64 marks / 8 ⌝ }
-{
-    (u64::trailing_zeros(marks) / 8) as usize
-}
-
-// Where the line at `at` ends, byte by byte.
-fn end_by_bytes(file: &[u8], at: usize) -> usize
-    ensures { λ r. ⌜ r ≡ lineEnd (now (file .entry)) at ⌝ }
-{
-    let mut i = at;
-    while i < file.len() {
-        if file[i] == 10 {
-            return i;
-        }
-        i += 1;
-    }
-    i
-}
-
 // Where the line at `at` ends: its LF, or the end of the file.
 pub fn line_end(file: &[u8], at: usize) -> usize
     ensures { λ r. ⌜ r ≡ lineEnd (now (file .entry)) at ⌝ }
 {
-    let mut i = at;
-    while i < file.len() {
-        if file.len() - i < 8 {
-            return end_by_bytes(file, i);
-        }
-        let marks = feed_marks(word_at(file, i));
-        if marks != 0 {
-            return i + first_mark(marks);
-        }
-        i += 8;
-    }
-    i
+    base_names::first_byte(file, at, 10)
 }
 
 // The line at `at` as a part of the file; empty where `at` lies past the end.
@@ -111,7 +57,7 @@ pub fn line_number(file: &[u8], at: usize) -> usize
     n
 }
 
-// Whether a line begins with key k.
+// Whether a line, or the file from a line on, begins with key k.
 fn has_key(k: u32, line: &[u8]) -> bool
     requires { ⌜ k < KEYS ⌝ }
     ensures { λ r. ⌜ r ≡ prefixed (keyName k) (now (line .entry)) ⌝ }
@@ -177,27 +123,22 @@ fn is_value_sound(k: u32, v: &[u8]) -> bool
     }
 }
 
-// Whether a line begins with key k and has a sound value behind it.
-fn is_key_sound(k: u32, line: &[u8]) -> bool
-    requires { ⌜ k < KEYS ⌝ }
-    ensures { λ r. ⌜ r ≡ (prefixed (keyName k) (now (line .entry)) && valueSound k (drop (length (keyName k)) (now (line .entry)))) ⌝ }
-{
-    if has_key(k, line) {
-        let n = key_length(k);
-        return is_value_sound(k, &line[n..]);
-    }
-    false
-}
-
-// Where the line behind the one at `at` starts, if a whole line with key k and a sound value stands there; else 0.
+// Where the line behind the one at `at` starts, if a whole line with key k and a sound value stands there; else 0. Most lines are not of the key that is asked for,
+// so the key comes first; it has no LF, so the line's end is looked for behind it.
 pub fn line_after(file: &[u8], k: u32, at: usize) -> usize
     requires { ⌜ k < KEYS ⌝ }
     ensures { λ r. ⌜ r ≡ lineAfter (now (file .entry)) k at ⌝ }
 {
-    let e = line_end(file, at);
-    if e < file.len() {
-        if is_key_sound(k, &file[at..e]) {
-            return e + 1;
+    if at >= file.len() {
+        return 0;
+    }
+    if has_key(k, &file[at..]) {
+        let from = at + key_length(k);
+        let e = line_end(file, from);
+        if e < file.len() {
+            if is_value_sound(k, &file[from..e]) {
+                return e + 1;
+            }
         }
     }
     0

@@ -8,10 +8,12 @@ use lib.ListN.{length, take, drop}
 use lib.Dec.{ltb}
 use borrow.Author.Tests.{ltb-true}
 use Rattle.base_scope.specs.Codes.{LINES, lineCode, lineBlock}
-use Rattle.base_scope.specs.Limits.{NUMBER_LIMIT, ALIGN8_LIMIT}
+use Rattle.base_scope.specs.Limits.{NUMBER_LIMIT}
 use Rattle.base_text.specs.Decimals.{decimal}
-use Rattle.blocks_values.specs.Values.{every, isDigit, labelIn, sizeIn, alignIn, lineSound}
-use Rattle.blocks_values.proofs.Values.{Parts, section-span, sound-span}
+use Rattle.blocks_values.specs.declared.LineParts.{LineParts}
+use Rattle.blocks_values.specs.Values.{every, isDigit, labelIn, sizeIn, alignIn, spanSound, lineSound}
+use Rattle.blocks_values.specs.Parts.{lineParts}
+use Rattle.blocks_values.proofs.Values.{Parts, label-up-to, section-span, sound-span}
 use Rattle.base_lists.proofs.Windows.{part-of-part}
 use Rattle.blocks_lines.specs.Lines.{lineEnd, line, next}
 use Rattle.blocks_lines.specs.Keys.{keyName, isKeyLine, valueAt}
@@ -103,30 +105,19 @@ module _ (B : List ℕ) where
   labelled-read j v e = rw e
 
   -- a line with a label has a size and an align8
-  pub span-parts : (j : ℕ) → j < lineCount B → labelled B j ≡ true → Parts (spanValue B j)
-  span-parts j h t =
+  span-sound : (j : ℕ) → j < lineCount B → labelled B j ≡ true → spanSound (spanValue B j) ≡ true
+  span-sound j h t =
       let v = spanValue B j in
       let l : 0 < length v = labelled-long j t in
-      sound-span v (sym (section-span v (λ e. absurd (omega arith))) ∙ span-section j h)
+      sym (section-span v (λ e. absurd (omega arith))) ∙ span-section j h
 
-  pub span-size-limit : (j : ℕ) → j < lineCount B → labelled B j ≡ true → spanSize B j ≤ NUMBER_LIMIT
-  unfolding spanSize
-  span-size-limit j h t = span-parts j h t .size-limit
-
-  pub span-align-limit : (j : ℕ) → j < lineCount B → labelled B j ≡ true → spanAlign8 B j ≤ ALIGN8_LIMIT
-  unfolding spanAlign8
-  span-align-limit j h t = span-parts j h t .align-limit
+  pub span-parts : (j : ℕ) → j < lineCount B → labelled B j ≡ true → Parts (spanValue B j)
+  span-parts j h t = sound-span (spanValue B j) (span-sound j h t)
 
   -- its digits in hand
   module _ (j : ℕ) (h : j < lineCount B) (t : labelled B j ≡ true) (v d : List ℕ) (is : v ≡ spanValue B j) where
     pub size-digits : d ≡ sizeIn v → (length d ≤ 7) × (every isDigit d ≡ true)
     size-digits e = let p = span-parts j h t in rw (e, is) (p .size-length, p .size-digits)
-
-    pub align-digits : d ≡ alignIn v → (length d ≤ 7) × (every isDigit d ≡ true)
-    align-digits e =
-        let p = span-parts j h t in
-        let m : length (alignIn (spanValue B j)) ≤ 7 = omega (arith, p .align-length) in
-        rw (e, is) (m, p .align-digits)
 
     pub size-read : (n : ℕ) → d ≡ sizeIn v → n ≡ decimal d → (n ≡ spanSize B j) × (n ≤ NUMBER_LIMIT)
     unfolding spanSize
@@ -134,12 +125,24 @@ module _ (B : List ℕ) where
         let x : n ≡ decimal (sizeIn (spanValue B j)) = rw (← is, ← e) q in
         (x, rw x (span-parts j h t .size-limit))
 
-    pub align-read : (n : ℕ) → d ≡ alignIn v → n ≡ decimal d → (n ≡ spanAlign8 B j) × (n ≤ ALIGN8_LIMIT)
-    unfolding spanAlign8
-    align-read n e q =
-        let x : n ≡ decimal (alignIn (spanValue B j)) = rw (← is, ← e) q in
-        (x, rw x (span-parts j h t .align-limit))
-
   pub label-read : (j : ℕ) (v l : List ℕ) → v ≡ spanValue B j → l ≡ labelIn v → l ≡ spanLabel B j
   unfolding spanLabel
   label-read j v l e f = f ∙ ap labelIn e
+
+  -- its value in hand, and the parts that were read of it
+  module _ (j : ℕ) (v : List ℕ) (is : v ≡ spanValue B j) where
+    pub value-sound : j < lineCount B → labelled B j ≡ true → spanSound v ≡ true
+    value-sound h t = rw is (span-sound j h t)
+
+    module _ (p : LineParts) (read : p ≡ lineParts v) where
+      pub parts-label : take (p .label - 0) v ≡ spanLabel B j
+      unfolding lineParts
+      parts-label = label-read j v _ is (label-up-to v (p .label) (ap (λ (x : LineParts). x .label) read))
+
+      pub parts-size : p .size ≡ spanSize B j
+      unfolding lineParts spanSize
+      parts-size = ap (λ (x : LineParts). x .size) read ∙ ap (λ (l : List ℕ). decimal (sizeIn l)) is
+
+      pub parts-align8 : p .align8 ≡ spanAlign8 B j
+      unfolding lineParts spanAlign8
+      parts-align8 = ap (λ (x : LineParts). x .align8) read ∙ ap (λ (l : List ℕ). decimal (alignIn l)) is

@@ -10,13 +10,13 @@ ghost use Rattle.base_lists.specs.Records.{flat};
 ghost use Rattle.base_fields.specs.declared.ByteOrder.the-variants.{Big};
 ghost use Rattle.base_fields.specs.Numbers.{encoded};
 ghost use Rattle.base_scope.specs.Codes.{LINES, lineCode};
-ghost use Rattle.base_scope.specs.Limits.{NUMBER_LIMIT, ALIGN8_LIMIT, BLOCK_LIMIT, PLACE_ROW, PLACE_TABLE};
+ghost use Rattle.base_scope.specs.Limits.{NUMBER_LIMIT, BLOCK_LIMIT, PLACE_ROW, PLACE_TABLE};
 ghost use Rattle.elf_symbols.specs.Symbols.{Table};
 ghost use Rattle.elf_index.specs.Index.{SymbolIndex};
 ghost use Rattle.blocks_file.specs.Blocks.{blockCount};
 ghost use Rattle.blocks_file.specs.Table.{Parsed};
-ghost use Rattle.blocks_places.specs.Lines.{lineCount, spanValue, labelled, spanLabel, spanSize, spanAlign8};
-ghost use Rattle.blocks_places.specs.Places.{labelSymbol, reached, placesOf, live, endAt};
+ghost use Rattle.blocks_places.specs.Lines.{lineCount, spanValue, labelled, spanLabel, spanSize};
+ghost use Rattle.blocks_places.specs.Places.{reached, placesOf, live, endAt};
 ghost use Rattle.blocks_places.specs.Faults.{oddPlace};
 ghost use Rattle.blocks_places.specs.Table.{placeIn, placesIn, heldSize, Placement, offStep, lowPlace, onStep, onAfter, stepOf, AtLine};
 use base_fields::ByteOrder;
@@ -57,14 +57,6 @@ pub fn span_size(file: &[u8], table: &[u8], j: usize) -> usize
     ensures { λ r. ⌜ (r ≡ spanSize (now (file .entry)) j) × (r ≤ NUMBER_LIMIT) ⌝ }
 {
     blocks_values::decimal_of(blocks_values::size_in(span_value(file, table, j)))
-}
-
-// The align8 of line j, which has a label.
-fn span_align8(file: &[u8], table: &[u8], j: usize) -> usize
-    requires { ⌜ Parsed (now file) (now table) × (j < lineCount (now file)) × (labelled (now file) j ≡ true) ⌝ }
-    ensures { λ r. ⌜ (r ≡ spanAlign8 (now (file .entry)) j) × (r ≤ ALIGN8_LIMIT) ⌝ }
-{
-    blocks_values::decimal_of(blocks_values::align_in(span_value(file, table, j)))
 }
 
 // Whether line j has a label.
@@ -149,23 +141,7 @@ fn on_step(place: u32, size: usize, align8: usize, end: usize, on: bool) -> Line
     }
 }
 
-// The first symbol of the label of line j, or the symbol count.
-fn label_symbol(
-    order: ByteOrder,
-    compiled: &[u8],
-    symbols: SymbolTable,
-    index: &[u8],
-    file: &[u8],
-    table: &[u8],
-    j: usize,
-) -> usize
-    requires { ⌜ AtLine order (now compiled) (now file) symbols (now index) (now table) j ⌝ }
-    ensures { λ r. ⌜ r ≡ labelSymbol order (now (compiled .entry)) (now (file .entry)) j ⌝ }
-{
-    elf_index::symbol_indexed(order, compiled, symbols, index, span_label(file, table, j))
-}
-
-// The step of line j, which has a label and is reached; `end` is the end of the block before in its section.
+// The step of line j, which has a label and is reached; `end` is the end of the block before in its section. The line is taken apart once.
 fn label_step(
     order: ByteOrder,
     compiled: &[u8],
@@ -180,14 +156,15 @@ fn label_step(
         × (labelled (now file) j ≡ true) × (reached order (now compiled) (now file) j ≡ true) ⌝ }
     ensures { λ r. ⌜ r ≡ stepOf order (now (compiled .entry)) (now (file .entry)) j ⌝ }
 {
-    let size = span_size(file, table, j);
-    let k = label_symbol(order, compiled, symbols, index, file, table, j);
+    let v = span_value(file, table, j);
+    let parts = blocks_values::line_parts(v);
+    let e = parts.label;
+    let k = elf_index::symbol_indexed(order, compiled, symbols, index, &v[0..e]);
     if k < symbols.count {
-        let align8 = span_align8(file, table, j);
         let s = elf_symbols::symbol_at(order, compiled, symbols.at, k);
-        return on_step(s.st_value, size, align8, end, on_after(j, true));
+        return on_step(s.st_value, parts.size, parts.align8, end, on_after(j, true));
     }
-    off_step(size == 0, end, on_after(j, false))
+    off_step(parts.size == 0, end, on_after(j, false))
 }
 
 // The step of line j; `on` says whether it is reached.

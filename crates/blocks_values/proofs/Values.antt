@@ -4,20 +4,22 @@ use Prim.Native.Nat.{ℕ, suc, _+_, _-_, _*_, _^_, _≤_, _<_}
 use mathlib.Core.Path.{_≡_, refl, sym, ap, _∙_}
 use mathlib.Core.Bool.{Bool, true, false, not, _&&_, _||_, and-true}
 use mathlib.Core.List.{List, [], _∷_, _++_}
-use native.Mathlib.Nat.{mul-one, mul-assoc, mul-le-mul-right, pow-le-pow-right, pow-succ'}
+use native.Mathlib.Nat.{sub-zero, mul-one, mul-assoc, mul-le-mul-right, pow-le-pow-right, pow-succ'}
 use native.Mathlib.Numerals.{add-one}
 use native.Mathlib.Omega.{arith}
-use lib.ListN.{length, take, drop, getD, length-drop, take-append-drop, drop-of-length-le}
-use lib.Seq.{take-all, length-take-le, getD-take}
+use lib.ListN.{length, take, drop, getD, take-append-drop, drop-of-length-le}
+use lib.Seq.{length-take-le, getD-take}
 use lib.Dec.{eqb, ltb, leb}
 use borrow.Author.Tests.{eq-eqb, ne-eqb, eqb-true, eqb-false, lt-ltb, ltb-true, leb-true, lt-leb, not-true, not-false}
 use Rattle.base_lists.specs.Ranges.{first, IsFirst}
 use Rattle.base_lists.proofs.Ranges.{and-parts, by-test, both, by-lt, first-none, none-first, first-is, first-high}
 use Rattle.base_lists.proofs.Windows.{drop-next}
+use Rattle.base_names.specs.Words.{byteAt, firstByte}
 use Rattle.base_scope.specs.Limits.{NUMBER_LIMIT, ALIGN8_LIMIT}
 use Rattle.base_text.specs.Decimals.{decimalFrom, decimal}
 use Rattle.base_lists.proofs.Windows.{tail-part}
 use Rattle.blocks_values.specs.Values.{every, isDigit, isHexDigit, isNumber, numberSound, spaceAt, spaceIn, labelIn, afterLabel, sizeIn, alignIn, spanSound, lineSound}
+use Rattle.blocks_values.specs.Parts.{lineParts}
 
 -- ---- a test of every byte
 
@@ -176,6 +178,10 @@ module _ (limit : ℕ) (v : List ℕ) where
 -- ---- the parts of `label size align8`
 
 module _ (v : List ℕ) where
+  pub first-space : firstByte v 32 0 ≡ spaceIn v
+  unfolding firstByte byteAt spaceIn spaceAt
+  first-space = refl
+
   pub space-high : spaceIn v ≤ length v
   unfolding spaceIn
   space-high = first-high (spaceAt v) 0 (length v) (omega arith)
@@ -226,23 +232,30 @@ module _ (v : List ℕ) where
   unfolding alignIn afterLabel
   align-is = refl
 
-  pub after-end : (e : ℕ) → e ≡ spaceIn v → e ≡ length v → take (length v - e) (drop e v) ≡ afterLabel v
-  after-end e s l =
+  -- the parts that the code takes: e is the space, or the end
+  pub behind-end : (e : ℕ) → e ≡ length v → take (length v - e) (drop e v) ≡ drop (e + 1) v
+  behind-end e l =
       let h : length v ≤ e = omega arith in
-      tail-part v e ∙ drop-of-length-le v h ∙ sym (after-none (omega arith))
+      let g : length v ≤ e + 1 = omega arith in
+      tail-part v e ∙ drop-of-length-le v h ∙ sym (drop-of-length-le v g)
 
-  pub after-space : (e : ℕ) → e ≡ spaceIn v → take (length v - (e + 1)) (drop (e + 1) v) ≡ afterLabel v
+  pub behind-space : (e : ℕ) → e ≡ spaceIn v → drop (e + 1) v ≡ afterLabel v
   unfolding afterLabel
-  after-space e s = tail-part v (e + 1) ∙ ap (λ (n : ℕ). drop (n + 1) v) s
+  behind-space e s = ap (λ (n : ℕ). drop (n + 1) v) s
+
+  pub label-up-to : (e : ℕ) → e ≡ spaceIn v → take (e - 0) v ≡ labelIn v
+  unfolding labelIn
+  label-up-to e s = ap (λ (n : ℕ). take n v) (sub-zero e ∙ s)
 
   -- the tests of a span and of a section, one after the other
   pub span-none : spaceIn v ≡ 0 → spanSound v ≡ false
   unfolding spanSound
   span-none e = rw e
 
-  pub span-numbers : (spaceIn v ≡ 0 → ⊥) → spanSound v ≡ (numberSound NUMBER_LIMIT (sizeIn v) && numberSound ALIGN8_LIMIT (alignIn v))
+  pub span-numbers : (spaceIn v ≡ 0 → ⊥) → (rest : List ℕ) → rest ≡ afterLabel v
+      → spanSound v ≡ (numberSound NUMBER_LIMIT (labelIn rest) && numberSound ALIGN8_LIMIT (afterLabel rest))
   unfolding spanSound
-  span-numbers d = rw (lt-ltb 0 (spaceIn v) (omega arith))
+  span-numbers d rest is = rw (lt-ltb 0 (spaceIn v) (omega arith), size-is, align-is, is)
 
   pub section-empty : length v ≡ 0 → lineSound v ≡ true
   unfolding lineSound
@@ -292,3 +305,31 @@ sound-span v t =
       align-length = digits-few (alignIn v) 1 (omega arith) a (omega arith);
       align-limit = d;
     }
+
+-- the parts that the code takes of what stands behind the label: f is its space
+module _ (v rest : List ℕ) (f : ℕ) (is : rest ≡ afterLabel v) (s : f ≡ spaceIn rest) where
+  pub size-up-to : take (f - 0) rest ≡ sizeIn v
+  size-up-to = label-up-to rest f s ∙ ap labelIn is ∙ sym (size-is v)
+
+  pub align-behind : drop (f + 1) rest ≡ alignIn v
+  align-behind = behind-space rest f s ∙ ap afterLabel is ∙ sym (align-is v)
+
+-- of a sound value, its digits in hand, and what they write
+module _ (v : List ℕ) (t : spanSound v ≡ true) where
+  pub size-digits : (d : List ℕ) → d ≡ sizeIn v → (length d ≤ 7) × (every isDigit d ≡ true)
+  size-digits d is = let p = sound-span v t in rw is (p .size-length, p .size-digits)
+
+  pub align-digits : (d : List ℕ) → d ≡ alignIn v → (length d ≤ 7) × (every isDigit d ≡ true)
+  align-digits d is =
+      let p = sound-span v t in
+      let m : length (alignIn v) ≤ 7 = omega (arith, p .align-length) in
+      rw is (m, p .align-digits)
+
+  pub parts-read : (e n m : ℕ) → e ≡ spaceIn v → n ≡ decimal (sizeIn v) → m ≡ decimal (alignIn v)
+      → (record { label = e; size = n; align8 = m } ≡ lineParts v) × (e ≤ length v) × (n ≤ NUMBER_LIMIT)
+  unfolding lineParts
+  parts-read e n m label size align = (
+    λ i. record { label = label i; size = size i; align8 = align i },
+    omega (arith, space-high v),
+    rw size (sound-span v t .size-limit),
+  )

@@ -1,11 +1,19 @@
 // The values behind the keys of a block file: numbers in digits, labels, `label size align8`, hex digits. Every function equals its definition in specs/.
 ghost use mathlib.Core.Path.{_≡_};
-ghost use mathlib.Core.Bool.{true};
-ghost use Prim.Native.Nat.{_≤_, _<_};
-ghost use lib.ListN.{length};
-ghost use Rattle.base_scope.specs.Limits.{NUMBER_LIMIT};
+ghost use mathlib.Core.Bool.{true, _&&_};
+ghost use Prim.Native.Nat.{_+_, _≤_, _<_};
+ghost use lib.ListN.{length, drop};
+ghost use Rattle.base_scope.specs.Limits.{NUMBER_LIMIT, ALIGN8_LIMIT};
 ghost use Rattle.base_text.specs.Decimals.{decimal};
-ghost use Rattle.blocks_values.specs.Values.{every, isDigit, isHexDigit, isNumber, numberSound, spaceIn, labelSound, labelIn, afterLabel, sizeIn, alignIn, spanSound, lineSound, dummySound};
+ghost use Rattle.blocks_values.specs.Values.{every, isDigit, isHexDigit, isNumber, numberSound, spaceIn, labelSound, labelIn, afterLabel, sizeIn, spanSound, lineSound, dummySound};
+ghost use Rattle.blocks_values.specs.Parts.{lineParts};
+
+// What `label size align8` says: how many bytes its label has, and its two numbers.
+pub struct LineParts {
+    pub label: usize,
+    pub size: usize,
+    pub align8: usize,
+}
 
 fn is_digit(x: u8) -> bool
     ensures { λ r. ⌜ r ≡ isDigit x ⌝ }
@@ -104,14 +112,7 @@ pub fn is_number_sound(limit: usize, v: &[u8]) -> bool
 pub fn space_in(v: &[u8]) -> usize
     ensures { λ r. ⌜ r ≡ spaceIn (now (v .entry)) ⌝ }
 {
-    let mut i: usize = 0;
-    while i < v.len() {
-        if v[i] == 32 {
-            return i;
-        }
-        i += 1;
-    }
-    i
+    base_names::first_byte(v, 0, 32)
 }
 
 // The label of `label size align8`, as a part of it.
@@ -122,15 +123,22 @@ pub fn label_in<'a>(v: &'a [u8]) -> &'a [u8]
     &v[0..e]
 }
 
-// What stands behind the label and its space.
-fn after_label<'a>(v: &'a [u8]) -> &'a [u8]
-    ensures { λ r. ⌜ now r ≡ afterLabel (now (v .entry)) ⌝ }
+// What stands behind the space at e; nothing where e is the end.
+fn behind<'a>(v: &'a [u8], e: usize) -> &'a [u8]
+    requires { ⌜ e ≤ length (now v) ⌝ }
+    ensures { λ r. ⌜ now r ≡ drop (e + 1) (now (v .entry)) ⌝ }
 {
-    let e = space_in(v);
     if e == v.len() {
         return &v[e..];
     }
     &v[e + 1..]
+}
+
+// What stands behind the label and its space.
+fn after_label<'a>(v: &'a [u8]) -> &'a [u8]
+    ensures { λ r. ⌜ now r ≡ afterLabel (now (v .entry)) ⌝ }
+{
+    behind(v, space_in(v))
 }
 
 // The digits of the size in `label size align8`.
@@ -140,25 +148,44 @@ pub fn size_in<'a>(v: &'a [u8]) -> &'a [u8]
     label_in(after_label(v))
 }
 
-// The digits of align8 in `label size align8`.
-pub fn align_in<'a>(v: &'a [u8]) -> &'a [u8]
-    ensures { λ r. ⌜ now r ≡ alignIn (now (v .entry)) ⌝ }
+// The parts of `label size align8`. Each of its spaces is looked for once.
+pub fn line_parts(v: &[u8]) -> LineParts
+    requires { ⌜ spanSound (now v) ≡ true ⌝ }
+    ensures { λ r. ⌜ (r ≡ lineParts (now (v .entry))) × (r .label ≤ length (now (v .entry))) × (r .size ≤ NUMBER_LIMIT) ⌝ }
 {
-    after_label(after_label(v))
+    let e = space_in(v);
+    let rest = behind(v, e);
+    let f = space_in(rest);
+    let size = decimal_of(&rest[0..f]);
+    let align8 = decimal_of(behind(rest, f));
+    LineParts {
+        label: e,
+        size,
+        align8,
+    }
 }
 
-// Whether v is `label size align8`.
+// Whether v is `size align8`.
+fn are_numbers_sound(v: &[u8]) -> bool
+    ensures { λ r. ⌜ r ≡ (numberSound NUMBER_LIMIT (labelIn (now (v .entry))) && numberSound ALIGN8_LIMIT (afterLabel (now (v .entry)))) ⌝ }
+{
+    let e = space_in(v);
+    let sized = is_number_sound(base_scope::NUMBER_LIMIT, &v[0..e]);
+    base_scope::both(
+        sized,
+        is_number_sound(base_scope::ALIGN8_LIMIT, behind(v, e)),
+    )
+}
+
+// Whether v is `label size align8`. Each of its spaces is looked for once.
 fn is_span_sound(v: &[u8]) -> bool
     ensures { λ r. ⌜ r ≡ spanSound (now (v .entry)) ⌝ }
 {
-    if space_in(v) == 0 {
+    let e = space_in(v);
+    if e == 0 {
         return false;
     }
-    let sized = is_number_sound(base_scope::NUMBER_LIMIT, size_in(v));
-    base_scope::both(
-        sized,
-        is_number_sound(base_scope::ALIGN8_LIMIT, align_in(v)),
-    )
+    are_numbers_sound(behind(v, e))
 }
 
 // Whether v is empty or `label size align8`.

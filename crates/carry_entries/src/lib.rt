@@ -459,26 +459,24 @@ fn is_sought(side: Side, code: u32) -> bool
     base_scope::both(side.compiled, base_scope::leaves_out(code))
 }
 
-// A gap for entry k of a table: `gap`, or where that does not tell of it and a gap is sought, another.
-fn gap_for(
-    sought: bool,
-    file: &[u8],
-    order: ByteOrder,
-    rows: &[u8],
-    n: usize,
-    table: EntryTable,
-    k: usize,
-    gap: Gap,
-) -> Gap
-    requires { ⌜ Headed order (now file) × TableRead order (now file) table × (k < relocationCount order (now file) (table .index)) × Rows (now rows) n × IsGap (now rows) n gap ⌝ }
+// A gap for an entry at offset x: `gap`, or where that does not tell of it, another.
+fn gap_near(rows: &[u8], n: usize, x: usize, gap: Gap) -> Gap
+    requires { ⌜ Rows (now rows) n × IsGap (now rows) n gap ⌝ }
+    ensures { λ r. ⌜ IsGap (now (rows .entry)) n r ⌝ }
+{
+    if is_in_gap(gap, x) {
+        return gap;
+    }
+    gap_beside(rows, n, x, gap)
+}
+
+// The same where a gap is sought; else `gap` will do.
+fn gap_for(sought: bool, rows: &[u8], n: usize, x: usize, gap: Gap) -> Gap
+    requires { ⌜ Rows (now rows) n × IsGap (now rows) n gap ⌝ }
     ensures { λ r. ⌜ IsGap (now (rows .entry)) n r ⌝ }
 {
     if sought {
-        let x = offset_at(file, order, table, k) as usize;
-        if is_in_gap(gap, x) {
-            return gap;
-        }
-        return gap_beside(rows, n, x, gap);
+        return gap_near(rows, n, x, gap);
     }
     gap
 }
@@ -551,19 +549,19 @@ pub fn kept_count(file: &[u8], side: Side, rows: &[u8], late: &[u8], t: usize) -
         return n;
     }
     let spans = side.spans;
-    let sought = is_sought(side, table.code);
     let mut gap = gap_before(rows, spans, 0);
     let mut kept: usize = 0;
     let mut k: usize = 0;
     while k < n {
-        gap = gap_for(sought, file, order, rows, spans, table, k, gap);
+        let x = offset_at(file, order, table, k) as usize;
+        gap = gap_near(rows, spans, x, gap);
         kept += one_if(is_kept(file, side, rows, late, table, k, gap));
         k += 1;
     }
     kept
 }
 
-// Writes what entry k of a table brings at `at`, and answers where it ends.
+// Writes what entry k of a table brings at `at`, and answers where it ends. The entry is in hand.
 fn write_entry(
     out: &mut [u8],
     at: usize,
@@ -574,12 +572,13 @@ fn write_entry(
     numbers: &[u8],
     table: EntryTable,
     k: usize,
+    entry: RelocationEntry,
     gap: Gap,
 ) -> usize
     requires { ⌜ EntriesRead (now file) side (now rows) (now late) (now numbers) × TableRead (side .order) (now file) table
         × (k < relocationCount (side .order) (now file) (table .index))
         × (at + length (broughtBytes (side .order) (now file) (carryingIn (now file) side (now rows) (now late) (now numbers)) (table .index) k) ≤ length (now out))
-        × IsGap (now rows) (side .spans) gap ⌝ }
+        × IsGap (now rows) (side .spans) gap × (entry ≡ relocation (side .order) (now file) (table .index) k) ⌝ }
     ensures { λ r. ⌜ (now (out .exit) ≡ spliced (now (out .entry)) at
         (broughtBytes (side .order) (now (file .entry)) (carryingIn (now (file .entry)) side (now (rows .entry)) (now (late .entry)) (now (numbers .entry))) (table .index) k))
         × (r ≡ at + length
@@ -596,13 +595,19 @@ fn write_entry(
         runs,
         blocks,
     };
-    let entry = entry_at(file, order, table, k);
     if stays(moves, rows, late, table.code, entry.r_offset, gap) {
         let stayed = carried_entry(side, numbers, Goal::To(entry.r_offset), entry);
         stayed.write(order, out, at);
         return at + table.size;
     }
-    let goal = goal_of(moves, rows, late, table.code, entry.r_offset, gap);
+    // The few that may go elsewhere have their own, so that the others need not store it.
+    let own = Moves {
+        compiled,
+        spans,
+        runs,
+        blocks,
+    };
+    let goal = goal_of(own, rows, late, table.code, entry.r_offset, gap);
     if is_left_out(goal) {
         return at;
     }
@@ -639,8 +644,21 @@ pub fn write_entries(
     let mut next = at;
     let mut k: usize = 0;
     while k < n {
-        gap = gap_for(sought, file, order, rows, spans, table, k, gap);
-        next = write_entry(out, next, file, side, rows, late, numbers, table, k, gap);
+        let entry = entry_at(file, order, table, k);
+        gap = gap_for(sought, rows, spans, entry.r_offset as usize, gap);
+        next = write_entry(
+            out,
+            next,
+            file,
+            side,
+            rows,
+            late,
+            numbers,
+            table,
+            k,
+            entry,
+            gap,
+        );
         k += 1;
     }
     next

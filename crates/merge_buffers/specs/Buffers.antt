@@ -1,6 +1,6 @@
 -- Of the code, not of document 01: the working buffers of a merge. Each of the four holds tables that are written one behind the other, in this order, and then only read;
 -- a table is never written while another one of its buffer is read (docs/SIZES.md).
-use Prim.Native.Nat.{ℕ, _+_, _≤_}
+use Prim.Native.Nat.{ℕ, _+_, _-_, _≤_}
 use mathlib.Core.List.{List}
 use lib.ListN.{length}
 use Rattle.base_buffers.specs.Parts.{partAt}
@@ -38,8 +38,8 @@ LIST_AT = GLABELS_AT + GLABEL_TABLE
 abbrev pub STEP_BUFFER : ℕ
 STEP_BUFFER = LIST_AT + POSITION_TABLE
 
--- the index by hash, of A's symbols, which the line-up and the glabels are read by, and then of the list; behind its last use, over it, the order of the result and the
--- numbers of the ids, then the spans of .text
+-- the index by hash of A's symbols, which the line-up and the glabels are read by, at the end; then that of the list, whose hashes stand in front of A's; behind its last
+-- use, over it, the order of the result and the numbers of the ids, then the spans of .text
 abbrev pub NUMBERS_AT : ℕ
 NUMBERS_AT = POSITION_TABLE
 
@@ -48,6 +48,9 @@ SPANS_AT = NUMBERS_AT + POSITION_TABLE
 
 abbrev pub INDEX_BUFFER : ℕ
 INDEX_BUFFER = INDEX_TABLE
+
+abbrev pub NAMES_AT : ℕ
+NAMES_AT = INDEX_BUFFER - SYMBOL_INDEX
 
 -- ---- the tables
 
@@ -79,7 +82,7 @@ abbrev pub listPart : List ℕ → List ℕ
 listPart l = partAt LIST_AT POSITION_TABLE l
 
 abbrev pub namesPart : List ℕ → List ℕ
-namesPart l = partAt 0 SYMBOL_INDEX l
+namesPart l = partAt NAMES_AT SYMBOL_INDEX l
 
 abbrev pub orderPart : List ℕ → List ℕ
 orderPart l = partAt 0 POSITION_TABLE l

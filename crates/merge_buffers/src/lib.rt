@@ -23,4 +23,6 @@ pub const NUMBERS_AT: usize = 24576;
 
 pub const SPANS_AT: usize = 49152;
 
+pub const NAMES_AT: usize = 32768;
+
 pub const INDEX_BUFFER: usize = 57344;

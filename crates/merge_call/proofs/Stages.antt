@@ -20,7 +20,7 @@ use Rattle.blocks_places.specs.Lines.{lineCount}
 use Rattle.blocks_places.specs.Table.{placesIn}
 use Rattle.open_inputs.specs.declared.Opened.{Opened}
 use Rattle.statics_table.specs.Statics.{nameHead}
-use Rattle.merge_buffers.specs.Buffers.{ROWS_AT, HOLDERS_AT, USED_AT, PLACE_BUFFER, STEP_BUFFER, INDEX_BUFFER, blocksPart, placesPart, lateStepPart, namesPart, BuffersHeld}
+use Rattle.merge_buffers.specs.Buffers.{ROWS_AT, HOLDERS_AT, USED_AT, PLACE_BUFFER, STEP_BUFFER, NAMES_AT, INDEX_BUFFER, blocksPart, placesPart, lateStepPart, namesPart, BuffersHeld}
 use Rattle.base_buffers.proofs.Parts.{lent, putBack, part-long, part-lent, put-table, kept-part}
 use Rattle.merge_inputs.specs.Taken.{Took}
 use Rattle.merge_sections.specs.declared.Stage.{Stage}
@@ -54,15 +54,15 @@ took-put from to places starts ends room C A B r table part same w =
 
 -- ---- the index of A's symbols
 
--- it stands at the start of its buffer, where there is room for it
-module _ (from to : ℕ) (index : List ℕ) (starts : from ≡ 0) (ends : to ≡ SYMBOL_INDEX) (room : INDEX_BUFFER ≤ length index) where
+-- it stands at the end of its buffer, where there is room for it
+module _ (from to : ℕ) (index : List ℕ) (starts : from ≡ NAMES_AT) (ends : to ≡ INDEX_BUFFER) (room : INDEX_BUFFER ≤ length index) where
   pub names-room : Room SYMBOL_LIMIT (lent from to index)
   names-room =
-      let e = ap length (part-lent 0 SYMBOL_INDEX from to index starts ends) ∙ part-long 0 SYMBOL_INDEX index (omega (arith, room)) in
+      let e = ap length (part-lent NAMES_AT SYMBOL_INDEX from to index starts ends) ∙ part-long NAMES_AT SYMBOL_INDEX index (omega (arith, room)) in
       record { few = omega arith; long = omega (arith, e) }
 
   pub names-put : (o : ByteOrder) (A part : List ℕ) → length part ≡ length (lent from to index) → SymbolIndex o A part → SymbolIndex o A (namesPart (putBack from to index part))
-  names-put o A part same x = rw (put-table 0 SYMBOL_INDEX from to index part (putBack from to index part) starts ends (omega (arith, room)) same refl) x
+  names-put o A part same x = rw (put-table NAMES_AT SYMBOL_INDEX from to index part (putBack from to index part) starts ends (omega (arith, room)) same refl) x
 
 -- ---- the late step
 

@@ -267,7 +267,7 @@ fn merge_late<'a>(
     }
 }
 
-// Indexes A's symbols by their names, at the start of the index.
+// Indexes A's symbols by their names, at the end of the index.
 fn index_names(assembled: &[u8], inputs: Inputs, index: &mut [u8])
     requires { ⌜ Viewed (inputs .order) (now assembled) (inputs .assembled) × (INDEX_BUFFER ≤ length (now index)) ⌝ }
     ensures { λ _. ⌜ SymbolIndex (inputs .order) (now (assembled .entry)) (namesPart (now (index .exit))) ⌝ }
@@ -275,8 +275,8 @@ fn index_names(assembled: &[u8], inputs: Inputs, index: &mut [u8])
     let order = inputs.order;
     let source = inputs.assembled;
     let symbols = source.symbols;
-    let from = base_buffers::bound(0);
-    let to = base_buffers::bound(base_scope::SYMBOL_INDEX);
+    let from = base_buffers::bound(merge_buffers::NAMES_AT);
+    let to = base_buffers::bound(merge_buffers::INDEX_BUFFER);
     elf_index::index_symbols(order, assembled, symbols, &mut index[from..to]);
 }
 
@@ -296,7 +296,7 @@ fn line_up(
 {
     let blocks = base_buffers::part(table, 0, base_scope::BLOCK_TABLE);
     let lines = base_buffers::part(places, 0, base_scope::PLACE_TABLE);
-    let names = base_buffers::part(index, 0, base_scope::SYMBOL_INDEX);
+    let names = base_buffers::part(index, merge_buffers::NAMES_AT, base_scope::SYMBOL_INDEX);
     merge_line_up::line_up(compiled, assembled, file, blocks, lines, inputs, names)
 }
 

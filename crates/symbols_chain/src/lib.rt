@@ -5,7 +5,7 @@ ghost use lib.ListN.{length};
 ghost use Rattle.base_scope.specs.Limits.{ID_LIMIT};
 ghost use Rattle.base_index.specs.Index.{Room};
 ghost use Rattle.symbols_rows.specs.Rows.{HoldersOf};
-ghost use Rattle.symbols_holders.specs.Ready.{symbolsIn, HoldersReady};
+ghost use Rattle.symbols_holders.specs.Ready.{KnownHashes, symbolsIn, HoldersReady};
 use base_fields::ByteOrder;
 use symbols_fill::Filling;
 use symbols_names::Sources;
@@ -17,7 +17,7 @@ pub struct Numbering {
     pub count: usize,
 }
 
-// Indexes the m positions of the list, and leaves their holders. Neither `index` nor `holders` needs particular contents.
+// Indexes the m positions of the list, and leaves their holders. The index has the hashes of A's names from `known` on, and `holders` needs no particular contents.
 pub fn hold_symbols<'a>(
     order: ByteOrder,
     compiled: &'a [u8],
@@ -26,14 +26,26 @@ pub fn hold_symbols<'a>(
     sources: Sources,
     rows: &[u8],
     list: &[u8],
+    known: usize,
     m: usize,
     index: &mut [u8],
     holders: &mut [u8],
 )
-    requires { ⌜ HoldersReady order (now compiled) (now assembled) (now statics) sources (now rows) (now list) m × Room ID_LIMIT (now index) × (2 * m ≤ length (now holders)) ⌝ }
+    requires { ⌜ HoldersReady order (now compiled) (now assembled) (now statics) sources (now rows) (now list) m × Room ID_LIMIT (now index) × (2 * m ≤ length (now holders))
+        × KnownHashes order (now assembled) known (now index) ⌝ }
     ensures { λ _. ⌜ HoldersOf (symbolsIn order (now (compiled .entry)) (now (assembled .entry)) (now (statics .entry)) sources (now (rows .entry))) (now (holders .exit)) m ⌝ }
 {
-    symbols_holders::index_list(order, compiled, assembled, statics, sources, list, m, index);
+    symbols_holders::index_list(
+        order,
+        compiled,
+        assembled,
+        statics,
+        sources,
+        list,
+        known,
+        m,
+        index,
+    );
     symbols_holders::hold_names(
         order,
         compiled,

@@ -12,18 +12,19 @@ use Rattle.base_lists.proofs.Ranges.{by-lt}
 use Rattle.base_fields.specs.declared.ByteOrder.{ByteOrder}
 use Rattle.base_scope.specs.Limits.{SYMBOL_LIMIT}
 use Rattle.base_scope.specs.Text.{text}
-use Rattle.elf_symbols.specs.Symbols.{symbolCount, symbolPlace, Tabled}
-use Rattle.elf_symbols.proofs.Symbols.{table-at, table-count}
+use Rattle.elf_symbols.specs.Symbols.{symbolCount}
+use Rattle.elf_symbols.proofs.Symbols.{table-count}
 use Rattle.symbols_taken.specs.Taken.{isTakenC, isTakenA}
 use Rattle.symbols_ids.specs.Ids.{firstA, firstStatic, byOrigin}
-use Rattle.symbols_names.proofs.Names.{rows-held}
+use Rattle.symbols_names.proofs.Names.{rows-held, name-own, name-other, name-static}
 use Rattle.symbols_rows.specs.declared.IdRow.{IdRow}
-use Rattle.symbols_holders.specs.Ready.{idCount, idName}
+use Rattle.symbols_rows.specs.Rows.{Fits}
+use Rattle.symbols_holders.specs.Ready.{idCount}
 use Rattle.symbols_names.specs.declared.NameKind.{NameKind}
 use Rattle.symbols_names.specs.Names.{kindOf}
 use Rattle.symbols_fill.specs.declared.SymbolPlace.{SymbolPlace}
 use Rattle.symbols_fill.specs.declared.Filling.{Filling}
-use Rattle.symbols_fill.specs.Fill.{placeC, placeA, placeStatic, takenPlace, takenKind, isTaken, idPlace, rowOf, SmallSections, AtSource, AtStatic, PlacesReady}
+use Rattle.symbols_fill.specs.Fill.{placeC, placeA, placeStatic, takenKind, isTaken, idPlace, rowBy, rowC, rowA, rowStatic, rowOf, takenRow, noRow, SmallSections, PlacesReady}
 use Rattle.symbols_fill.proofs.Places.{small-sections}
 
 -- n symbols of C, m of A
@@ -60,72 +61,6 @@ module _ (o : ByteOrder) (C A : List ℕ) (n m : ℕ) (own : n ≡ symbolCount o
       (λ k. origin-other X f g h l k ∙ b l k ∙ ap t (sym (origin-other Y u v w l k)))
       (λ k. origin-static X f g h k ∙ c k ∙ ap t (sym (origin-static Y u v w k))))
 
-  -- ---- what is taken
-
-  pub taken-own : (r : Bool) → i < n → r ≡ isTakenC o C i → r ≡ isTaken o C A i
-  unfolding isTaken
-  taken-own r l e = e ∙ sym (origin-own Bool (isTakenC o C) (isTakenA o A) (λ k. true) l)
-
-  pub taken-other : (r : Bool) → n ≤ i → i < n + m → r ≡ isTakenA o A (i - n) → r ≡ isTaken o C A i
-  unfolding isTaken
-  taken-other r l u e = e ∙ sym (origin-other Bool (isTakenC o C) (isTakenA o A) (λ k. true) l u)
-
-  pub taken-static : n + m ≤ i → true ≡ isTaken o C A i
-  unfolding isTaken
-  taken-static l = sym (origin-static Bool (isTakenC o C) (isTakenA o A) (λ k. true) l)
-
--- ---- places, by what is in hand
-
-module _ (C A T late : List ℕ) (f : Filling) (q : PlacesReady C A T late f) where
-  abbrev n : ℕ
-  n = f .sources .compiled .count
-
-  abbrev m : ℕ
-  m = f .sources .assembled .count
-
-  own : n ≡ symbolCount (f .inputs .order) C
-  own = table-count (f .inputs .order) C (f .sources .compiled) (q .names .compiled)
-
-  other : m ≡ symbolCount (f .inputs .order) A
-  other = table-count (f .inputs .order) A (f .sources .assembled) (q .names .assembled)
-
-  small : SmallSections (f .inputs .compiled)
-  small = small-sections (f .inputs .order) C (f .inputs .compiled) (q .compiled)
-
-  pub symbols-few : n + m ≤ 2 * SYMBOL_LIMIT
-  symbols-few = rows-held (f .inputs .order) C A T (f .sources) (q .names) .symbols
-
-  module _ (i : ℕ) where
-    pub own-held : i < n → Tabled (f .inputs .order) C × (f .sources .compiled .at ≡ symbolPlace (f .inputs .order) C 0) × (i < symbolCount (f .inputs .order) C)
-    own-held l = (q .compiled .tabled, table-at (f .inputs .order) C (f .sources .compiled) (q .names .compiled), omega (arith, own, l))
-
-    pub other-held : n ≤ i → i < n + m → AtSource A late f (i - n)
-    other-held l u = record { viewed = q .assembled; table = q .table; small = small; below = omega (arith, other, l, u) }
-
-    pub static-held : n + m ≤ i → i < idCount (f .sources) → AtStatic T f (i - (n + m))
-    static-held l u =
-        let h : i - (n + m) < f .sources .statics = omega (arith, l, u) in
-        record { small = small; few = omega (arith, h, q .names .counted .few); long = omega (arith, h, q .names .counted .long); code = q .codes (i - (n + m)) h }
-
-    module _ (r : SymbolPlace) where
-      pub at-own : i < n → r ≡ placeC (f .inputs .order) C i → r ≡ idPlace C A T late f i
-      unfolding idPlace
-      at-own l e = e ∙ sym (origin-own (f .inputs .order) C A n m own other i SymbolPlace (placeC (f .inputs .order) C) (placeA A late f) (placeStatic T f) l)
-
-      pub at-other : n ≤ i → i < n + m → r ≡ placeA A late f (i - n) → r ≡ idPlace C A T late f i
-      unfolding idPlace
-      at-other l u e = e ∙ sym (origin-other (f .inputs .order) C A n m own other i SymbolPlace (placeC (f .inputs .order) C) (placeA A late f) (placeStatic T f) l u)
-
-      pub at-static : n + m ≤ i → r ≡ placeStatic T f (i - (n + m)) → r ≡ idPlace C A T late f i
-      unfolding idPlace
-      at-static l e = e ∙ sym (origin-static (f .inputs .order) C A n m own other i SymbolPlace (placeC (f .inputs .order) C) (placeA A late f) (placeStatic T f) l)
-
-pub place-taken : (t : Bool) (r p : SymbolPlace) → t ≡ true → r ≡ p → r ≡ takenPlace t p
-place-taken t r p e is = rw e is
-
-pub place-none : (t : Bool) (p : SymbolPlace) → t ≡ false → _≡_ {A = SymbolPlace} (record { section = 0; value = 0; binding = 0 }) (takenPlace t p)
-place-none t p e = rw e
-
 -- ---- rows
 
 -- the name of an id that is taken
@@ -138,18 +73,65 @@ module _ (t : Bool) (name : List ℕ) (taken : t ≡ true) where
   unfolding takenKind kindOf
   kind-gp = rw taken
 
-  pub kind-some : kindOf name ≡ takenKind t name
+-- a row by the test whether it is taken
+module _ (t : Bool) (name : List ℕ) (p : SymbolPlace) where
+  pub row-taken : (r : IdRow) (x : SymbolPlace) (k : NameKind) → t ≡ true → r ≡ takenRow x k → x ≡ p → k ≡ kindOf name → r ≡ rowBy t name p
   unfolding takenKind
-  kind-some = rw taken
+  row-taken r x k taken is place kind = is ∙ rw (place, kind, taken)
 
--- that of one that is not
-pub kind-none : (t : Bool) (name : List ℕ) → t ≡ false → _≡_ {A = NameKind} (record { unnamed = false; «gp_disp» = false }) (takenKind t name)
-unfolding takenKind
-kind-none t name e = rw e
+  pub row-none : (r : IdRow) → t ≡ false → r ≡ noRow → r ≡ rowBy t name p
+  unfolding takenKind
+  row-none r left is = is ∙ rw left
 
-module _ (C A T late : List ℕ) (f : Filling) (i : ℕ) where
-  pub row-is : (t : Bool) (k : NameKind) (p : SymbolPlace) → t ≡ isTaken (f .inputs .order) C A i → p ≡ takenPlace t (idPlace C A T late f i)
-      → k ≡ takenKind t (idName (f .inputs .order) C A T (f .sources) i)
-      → _≡_ {A = IdRow} (record { taken = t; unnamed = k .unnamed; «gp_disp» = k .«gp_disp»; binding = p .binding; section = p .section; value = p .value }) (rowOf C A T late f i)
-  unfolding rowOf
-  row-is t k p taken place kind = rw (place, kind, taken)
+-- its binding and section fit into a row
+pub taken-fits : (r : IdRow) (x : SymbolPlace) (k : NameKind) → r ≡ takenRow x k → Fits (x .binding) (x .section) → Fits (r .binding) (r .section)
+taken-fits r x k is h = rw is h
+
+pub none-fits : (r : IdRow) → r ≡ noRow → Fits (r .binding) (r .section)
+none-fits r is = rw is (omega arith, omega arith)
+
+-- by what is in hand
+module _ (C A T late : List ℕ) (f : Filling) (q : PlacesReady C A T late f) where
+  abbrev n : ℕ
+  n = f .sources .compiled .count
+
+  abbrev m : ℕ
+  m = f .sources .assembled .count
+
+  pub own : n ≡ symbolCount (f .inputs .order) C
+  own = table-count (f .inputs .order) C (f .sources .compiled) (q .names .compiled)
+
+  pub other : m ≡ symbolCount (f .inputs .order) A
+  other = table-count (f .inputs .order) A (f .sources .assembled) (q .names .assembled)
+
+  pub small : SmallSections (f .inputs .compiled)
+  small = small-sections (f .inputs .order) C (f .inputs .compiled) (q .compiled)
+
+  pub symbols-few : n + m ≤ 2 * SYMBOL_LIMIT
+  symbols-few = rows-held (f .inputs .order) C A T (f .sources) (q .names) .symbols
+
+  -- the row of id i is that of the symbol or the static that it is
+  module _ (i : ℕ) where
+    pub row-own : i < n → rowC (f .inputs .order) C i ≡ rowOf C A T late f i
+    unfolding rowC rowOf isTaken idPlace
+    row-own l = sym (rw (
+      origin-own (f .inputs .order) C A n m own other i Bool (isTakenC (f .inputs .order) C) (isTakenA (f .inputs .order) A) (λ k. true) l,
+      origin-own (f .inputs .order) C A n m own other i SymbolPlace (placeC (f .inputs .order) C) (placeA A late f) (placeStatic T f) l,
+      ← name-own (f .inputs .order) C A T (f .sources) (q .names) i l,
+    ))
+
+    pub row-other : n ≤ i → i < n + m → rowA A late f (i - n) ≡ rowOf C A T late f i
+    unfolding rowA rowOf isTaken idPlace
+    row-other l u = sym (rw (
+      origin-other (f .inputs .order) C A n m own other i Bool (isTakenC (f .inputs .order) C) (isTakenA (f .inputs .order) A) (λ k. true) l u,
+      origin-other (f .inputs .order) C A n m own other i SymbolPlace (placeC (f .inputs .order) C) (placeA A late f) (placeStatic T f) l u,
+      ← name-other (f .inputs .order) C A T (f .sources) (q .names) i l u,
+    ))
+
+    pub row-static : n + m ≤ i → i < idCount (f .sources) → rowStatic C T f (i - (n + m)) ≡ rowOf C A T late f i
+    unfolding rowStatic rowOf isTaken idPlace
+    row-static l u = sym (rw (
+      origin-static (f .inputs .order) C A n m own other i Bool (isTakenC (f .inputs .order) C) (isTakenA (f .inputs .order) A) (λ k. true) l,
+      origin-static (f .inputs .order) C A n m own other i SymbolPlace (placeC (f .inputs .order) C) (placeA A late f) (placeStatic T f) l,
+      ← name-static (f .inputs .order) C A T (f .sources) (q .names) i l u,
+    ))

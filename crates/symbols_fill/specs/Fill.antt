@@ -12,13 +12,13 @@ use Rattle.base_packed.specs.Packed.{bindingOf}
 use Rattle.base_scope.specs.Codes.{LATE-RODATA, CODES, targetCode}
 use Rattle.base_scope.specs.Limits.{SECTION_LIMIT, STATIC_LIMIT, STATIC_ROW}
 use Rattle.elf_records.specs.declared.symbol.SymbolEntry.{SymbolEntry}
-use Rattle.elf_symbols.specs.Symbols.{symbolCount, symbol}
+use Rattle.elf_symbols.specs.Symbols.{symbolCount, symbol, symbolName}
 use Rattle.elf_check.specs.declared.View.{View}
 use Rattle.elf_check.specs.View.{sectionIn, Viewed}
 use Rattle.late_lookups.specs.declared.LatePlace.{LatePlace}
 use Rattle.late_lookups.specs.declared.LatePlace.the-variants.{Moved, Unmoved}
 use Rattle.late_lookups.specs.Fields.{offsetAt}
-use Rattle.statics_table.specs.Statics.{staticBinding}
+use Rattle.statics_table.specs.Statics.{workingName, staticBinding}
 use Rattle.statics_table.specs.Table.{staticIn}
 use Rattle.symbols_taken.specs.Taken.{isTakenC, isTakenA, isPlacedIn}
 use Rattle.symbols_taken.specs.Code.{codeIn, usedBytes, LateIn}
@@ -88,20 +88,42 @@ takenKind taken name = record { unnamed = taken && kindOf name .unnamed; «gp_di
 unfoldable pub isTaken : ByteOrder → List ℕ → List ℕ → ℕ → Bool
 isTaken o C A i = byOrigin o C A (isTakenC o C) (isTakenA o A) (λ k. true) i
 
+-- the row of an id by whether it is taken, its name and its place
+abbrev pub rowBy : Bool → List ℕ → SymbolPlace → IdRow
+rowBy taken name place = record {
+  taken = taken;
+  unnamed = takenKind taken name .unnamed;
+  «gp_disp» = takenKind taken name .«gp_disp»;
+  binding = takenPlace taken place .binding;
+  section = takenPlace taken place .section;
+  value = takenPlace taken place .value;
+}
+
+-- C's symbol k, A's symbol k, static k
+unfoldable pub rowC : ByteOrder → List ℕ → ℕ → IdRow
+rowC o C k = rowBy (isTakenC o C k) (symbolName o C k) (placeC o C k)
+
+unfoldable pub rowA : List ℕ → List ℕ → Filling → ℕ → IdRow
+rowA A late f k = rowBy (isTakenA (f .inputs .order) A k) (symbolName (f .inputs .order) A k) (placeA A late f k)
+
+unfoldable pub rowStatic : List ℕ → List ℕ → Filling → ℕ → IdRow
+rowStatic C T f k = rowBy true (workingName C (staticIn T k)) (placeStatic T f k)
+
 module _ (C A T late : List ℕ) (f : Filling) where
   -- by where id i comes from
   unfoldable pub idPlace : ℕ → SymbolPlace
   idPlace i = byOrigin (f .inputs .order) C A (placeC (f .inputs .order) C) (placeA A late f) (placeStatic T f) i
 
   unfoldable pub rowOf : ℕ → IdRow
-  rowOf i = record {
-    taken = isTaken (f .inputs .order) C A i;
-    unnamed = takenKind (isTaken (f .inputs .order) C A i) (idName (f .inputs .order) C A T (f .sources) i) .unnamed;
-    «gp_disp» = takenKind (isTaken (f .inputs .order) C A i) (idName (f .inputs .order) C A T (f .sources) i) .«gp_disp»;
-    binding = takenPlace (isTaken (f .inputs .order) C A i) (idPlace i) .binding;
-    section = takenPlace (isTaken (f .inputs .order) C A i) (idPlace i) .section;
-    value = takenPlace (isTaken (f .inputs .order) C A i) (idPlace i) .value;
-  }
+  rowOf i = rowBy (isTaken (f .inputs .order) C A i) (idName (f .inputs .order) C A T (f .sources) i) (idPlace i)
+
+-- the row of an id that is taken, of a place and a kind of name
+abbrev pub takenRow : SymbolPlace → NameKind → IdRow
+takenRow p k = record { taken = true; unnamed = k .unnamed; «gp_disp» = k .«gp_disp»; binding = p .binding; section = p .section; value = p .value }
+
+-- and of one that is not
+abbrev pub noRow : IdRow
+noRow = record { taken = false; unnamed = false; «gp_disp» = false; binding = 0; section = 0; value = 0 }
 
 -- ---- what is in hand
 
@@ -123,6 +145,20 @@ pub record AtStatic (T : List ℕ) (f : Filling) (k : ℕ) : Type 0 where
   pub long : STATIC_ROW * k + STATIC_ROW ≤ length T
   pub code : (1 ≤ staticIn T k .code) × (staticIn T k .code ≤ CODES)
 
+-- all of A's symbols, with their marks
+pub record SourceReady (A used late : List ℕ) (f : Filling) : Type 0 where
+  pub viewed : Viewed (f .inputs .order) A (f .inputs .assembled)
+  pub table : LateIn (f .step .runs) late (f .inputs .blocks)
+  pub small : SmallSections (f .inputs .compiled)
+  pub marks : Within (usedBytes (f .inputs .order) A) 0 used
+
+-- the first n statics
+pub record StaticsReady (T : List ℕ) (f : Filling) (n : ℕ) : Type 0 where
+  pub small : SmallSections (f .inputs .compiled)
+  pub few : n ≤ STATIC_LIMIT
+  pub long : STATIC_ROW * n ≤ length T
+  pub codes : (k : ℕ) → k < n → (1 ≤ staticIn T k .code) × (staticIn T k .code ≤ CODES)
+
 -- for the places of ids: both views, the names, the table of the late step where it runs, and statics of some code
 pub record PlacesReady (C A T late : List ℕ) (f : Filling) : Type 0 where
   pub compiled : Viewed (f .inputs .order) C (f .inputs .compiled)
@@ -135,6 +171,12 @@ pub record PlacesReady (C A T late : List ℕ) (f : Filling) : Type 0 where
 pub record FillReady (C A T used late : List ℕ) (f : Filling) : Type 0 where
   pub places : PlacesReady C A T late f
   pub marks : Within (usedBytes (f .inputs .order) A) 0 used
+
+-- n rows are put from row `from` on, and those before are as they were
+pub record RowsPut (row : ℕ → IdRow) (from n : ℕ) (before after : List ℕ) : Type 0 where
+  pub long : length after ≡ length before
+  pub put : (k : ℕ) → k < n → idRow after (from + k) ≡ row k
+  pub kept : (i : ℕ) → i < from → idRow after i ≡ idRow before i
 
 -- what filling leaves: the rows of all ids
 pub record FilledRows (C A T late : List ℕ) (f : Filling) (before : List ℕ) (n : ℕ) (after : List ℕ) : Type 0 where

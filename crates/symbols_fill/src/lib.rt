@@ -4,17 +4,15 @@
 ghost use mathlib.Core.Path.{_≡_};
 ghost use Prim.Native.Nat.{_+_, _*_, _≤_, _<_};
 ghost use lib.ListN.{length};
-ghost use Rattle.base_lists.specs.Windows.{Within, spliced};
 ghost use Rattle.base_scope.specs.Codes.{CODES};
-ghost use Rattle.base_scope.specs.Limits.{ID_LIMIT, ID_ROW};
-ghost use Rattle.elf_symbols.specs.Symbols.{symbolPlace, symbolCount, Tabled};
+ghost use Rattle.base_scope.specs.Limits.{SYMBOL_LIMIT, ID_LIMIT, ID_ROW};
+ghost use Rattle.elf_symbols.specs.Symbols.{symbolPlace, symbolCount, Tabled, Entries};
 ghost use Rattle.elf_check.specs.View.{sectionIn, Viewed};
-ghost use Rattle.symbols_taken.specs.Taken.{isTakenC, isTakenA, isPlacedIn};
-ghost use Rattle.symbols_taken.specs.Code.{usedBytes, LateIn};
-ghost use Rattle.symbols_rows.specs.Rows.{Fits, idRowBytes};
-ghost use Rattle.symbols_names.specs.Names.{SourcesRead};
-ghost use Rattle.symbols_holders.specs.Ready.{idCount, idName};
-ghost use Rattle.symbols_fill.specs.Fill.{placeC, latePlaceIn, lateValueIn, placeA, placeStatic, idPlace, takenPlace, takenKind, isTaken, rowOf, SmallSections, AtSource, AtStatic, PlacesReady, FillReady, FilledRows};
+ghost use Rattle.symbols_taken.specs.Taken.{isPlacedIn};
+ghost use Rattle.symbols_taken.specs.Code.{AtSymbol, LateIn};
+ghost use Rattle.symbols_rows.specs.Rows.{Fits};
+ghost use Rattle.symbols_holders.specs.Ready.{idCount};
+ghost use Rattle.symbols_fill.specs.Fill.{placeC, latePlaceIn, lateValueIn, placeA, placeStatic, takenRow, noRow, rowC, rowA, rowStatic, SmallSections, AtSource, AtStatic, SourceReady, StaticsReady, FillReady, RowsPut, FilledRows};
 use base_fields::ByteOrder;
 use elf_check::View;
 use late_length::LateStep;
@@ -138,142 +136,12 @@ pub fn place_static(statics: &[u8], filling: Filling, k: usize) -> SymbolPlace
     }
 }
 
-// The place of an id, by where it comes from.
-fn place_of(
-    compiled: &[u8],
-    assembled: &[u8],
-    statics: &[u8],
-    late: &[u8],
-    filling: Filling,
-    id: usize,
-) -> SymbolPlace
-    requires { ⌜ PlacesReady (now compiled) (now assembled) (now statics) (now late) filling × (id < idCount (filling .sources)) ⌝ }
-    ensures { λ r. ⌜ (r ≡ idPlace (now (compiled .entry)) (now (assembled .entry)) (now (statics .entry)) (now (late .entry)) filling id) × Fits (r .binding) (r .section) ⌝ }
+// The row of an id that is taken.
+fn taken_row(place: SymbolPlace, kind: NameKind) -> IdRow
+    ensures { λ r. ⌜ r ≡ takenRow place kind ⌝ }
 {
-    let sources = filling.sources;
-    let own = sources.compiled;
-    let other = sources.assembled;
-    let first = own.count;
-    if id < first {
-        let inputs = filling.inputs;
-        let order = inputs.order;
-        return place_c(order, compiled, own.at, id);
-    }
-    let behind = first + other.count;
-    if id < behind {
-        return place_a(assembled, late, filling, id - first);
-    }
-    place_static(statics, filling, id - behind)
-}
-
-// The place of an id that is taken; nothing is asked of another.
-fn taken_place(
-    taken: bool,
-    compiled: &[u8],
-    assembled: &[u8],
-    statics: &[u8],
-    late: &[u8],
-    filling: Filling,
-    id: usize,
-) -> SymbolPlace
-    requires { ⌜ PlacesReady (now compiled) (now assembled) (now statics) (now late) filling × (id < idCount (filling .sources)) ⌝ }
-    ensures { λ r. ⌜ (r ≡ takenPlace taken (idPlace (now (compiled .entry)) (now (assembled .entry)) (now (statics .entry)) (now (late .entry)) filling id)) × Fits (r .binding) (r .section) ⌝ }
-{
-    if taken {
-        return place_of(compiled, assembled, statics, late, filling, id);
-    }
-    SymbolPlace {
-        section: 0,
-        value: 0,
-        binding: 0,
-    }
-}
-
-// Whether A's symbol k is taken; `used` has the marks.
-fn is_taken_assembled(assembled: &[u8], used: &[u8], inputs: Inputs, k: usize) -> bool
-    requires { ⌜ Viewed (inputs .order) (now assembled) (inputs .assembled) × Within (usedBytes (inputs .order) (now assembled)) 0 (now used) × (k < symbolCount (inputs .order) (now assembled)) ⌝ }
-    ensures { λ r. ⌜ r ≡ isTakenA (inputs .order) (now (assembled .entry)) k ⌝ }
-{
-    let order = inputs.order;
-    let view = inputs.assembled;
-    let strings = elf_symbols::strings_of(assembled, view.symbols);
-    symbols_taken::is_taken_a(order, assembled, view, strings, used, k)
-}
-
-// Whether C's symbol k is taken.
-fn is_taken_compiled(compiled: &[u8], inputs: Inputs, k: usize) -> bool
-    requires { ⌜ Viewed (inputs .order) (now compiled) (inputs .compiled) × (k < symbolCount (inputs .order) (now compiled)) ⌝ }
-    ensures { λ r. ⌜ r ≡ isTakenC (inputs .order) (now (compiled .entry)) k ⌝ }
-{
-    let order = inputs.order;
-    let view = inputs.compiled;
-    let symbols = view.symbols;
-    let strings = elf_symbols::strings_of(compiled, symbols);
-    symbols_taken::is_taken_c(order, compiled, symbols.at, strings, k)
-}
-
-// Whether an id is taken, by where it comes from: statics all are.
-fn is_taken(compiled: &[u8], assembled: &[u8], used: &[u8], inputs: Inputs, id: usize) -> bool
-    requires { ⌜ Viewed (inputs .order) (now compiled) (inputs .compiled) × Viewed (inputs .order) (now assembled) (inputs .assembled) × Within (usedBytes (inputs .order) (now assembled)) 0 (now used) ⌝ }
-    ensures { λ r. ⌜ r ≡ isTaken (inputs .order) (now (compiled .entry)) (now (assembled .entry)) id ⌝ }
-{
-    let target = inputs.compiled;
-    let source = inputs.assembled;
-    let own = target.symbols;
-    let other = source.symbols;
-    let first = own.count;
-    if id < first {
-        return is_taken_compiled(compiled, inputs, id);
-    }
-    if id < first + other.count {
-        return is_taken_assembled(assembled, used, inputs, id - first);
-    }
-    true
-}
-
-// The kind of an id's name. The name of one that is not taken is not read.
-fn taken_kind<'a>(
-    taken: bool,
-    order: ByteOrder,
-    compiled: &'a [u8],
-    assembled: &'a [u8],
-    statics: &[u8],
-    sources: Sources,
-    id: usize,
-) -> NameKind
-    requires { ⌜ SourcesRead order (now compiled) (now assembled) (now statics) sources × (id < idCount sources) ⌝ }
-    ensures { λ r. ⌜ r ≡ takenKind taken (idName order (now (compiled .entry)) (now (assembled .entry)) (now (statics .entry)) sources id) ⌝ }
-{
-    if taken {
-        return symbols_names::name_kind(order, compiled, assembled, statics, sources, id);
-    }
-    NameKind {
-        unnamed: false,
-        gp_disp: false,
-    }
-}
-
-// The row of an id.
-pub fn row_of<'a>(
-    compiled: &'a [u8],
-    assembled: &'a [u8],
-    statics: &[u8],
-    used: &[u8],
-    late: &[u8],
-    filling: Filling,
-    id: usize,
-) -> IdRow
-    requires { ⌜ FillReady (now compiled) (now assembled) (now statics) (now used) (now late) filling × (id < idCount (filling .sources)) ⌝ }
-    ensures { λ r. ⌜ (r ≡ rowOf (now (compiled .entry)) (now (assembled .entry)) (now (statics .entry)) (now (late .entry)) filling id) × Fits (r .binding) (r .section) ⌝ }
-{
-    let inputs = filling.inputs;
-    let order = inputs.order;
-    let sources = filling.sources;
-    let taken = is_taken(compiled, assembled, used, inputs, id);
-    let place = taken_place(taken, compiled, assembled, statics, late, filling, id);
-    let kind = taken_kind(taken, order, compiled, assembled, statics, sources, id);
     IdRow {
-        taken,
+        taken: true,
         unnamed: kind.unnamed,
         gp_disp: kind.gp_disp,
         binding: place.binding,
@@ -282,24 +150,129 @@ pub fn row_of<'a>(
     }
 }
 
-// Writes the row of an id.
-fn fill_row<'a>(
-    compiled: &'a [u8],
-    assembled: &'a [u8],
-    statics: &[u8],
+// That of one which is not.
+fn no_row() -> IdRow
+    ensures { λ r. ⌜ r ≡ noRow ⌝ }
+{
+    IdRow {
+        taken: false,
+        unnamed: false,
+        gp_disp: false,
+        binding: 0,
+        section: 0,
+        value: 0,
+    }
+}
+
+// The row of C's symbol k. Nothing is asked of one that is not taken.
+fn row_c(order: ByteOrder, compiled: &[u8], at: usize, strings: &[u8], k: usize) -> IdRow
+    requires { ⌜ Entries order (now compiled) at (now strings) × (k < symbolCount order (now compiled)) ⌝ }
+    ensures { λ r. ⌜ (r ≡ rowC order (now (compiled .entry)) k) × Fits (r .binding) (r .section) ⌝ }
+{
+    if symbols_taken::is_taken_c(order, compiled, at, strings, k) {
+        let entry = elf_symbols::symbol_at(order, compiled, at, k);
+        let kind = symbols_names::kind_at(strings, entry.st_name as usize);
+        return taken_row(place_c(order, compiled, at, k), kind);
+    }
+    no_row()
+}
+
+// Writes the rows of C's symbols.
+fn fill_c(compiled: &[u8], inputs: Inputs, rows: &mut [u8])
+    requires { ⌜ Viewed (inputs .order) (now compiled) (inputs .compiled) × (ID_ROW * symbolCount (inputs .order) (now compiled) ≤ length (now rows)) ⌝ }
+    ensures { λ _. ⌜ RowsPut (rowC (inputs .order) (now (compiled .entry))) 0 (symbolCount (inputs .order) (now (compiled .entry))) (now (rows .entry)) (now (rows .exit)) ⌝ }
+{
+    let order = inputs.order;
+    let view = inputs.compiled;
+    let symbols = view.symbols;
+    let strings = elf_symbols::strings_of(compiled, symbols);
+    let at = symbols.at;
+    let n = symbols.count;
+    let mut k: usize = 0;
+    while k < n {
+        let row = row_c(order, compiled, at, strings, k);
+        symbols_rows::write_id(rows, k, row);
+        k += 1;
+    }
+}
+
+// The row of A's symbol k; `used` has the marks.
+fn row_a(
+    assembled: &[u8],
+    strings: &[u8],
     used: &[u8],
     late: &[u8],
     filling: Filling,
-    id: usize,
+    k: usize,
+) -> IdRow
+    requires { ⌜ AtSource (now assembled) (now late) filling k × AtSymbol (filling .inputs .order) (now assembled) (filling .inputs .assembled) (now strings) (now used) k ⌝ }
+    ensures { λ r. ⌜ (r ≡ rowA (now (assembled .entry)) (now (late .entry)) filling k) × Fits (r .binding) (r .section) ⌝ }
+{
+    let inputs = filling.inputs;
+    let order = inputs.order;
+    let view = inputs.assembled;
+    if symbols_taken::is_taken_a(order, assembled, view, strings, used, k) {
+        let symbols = view.symbols;
+        let entry = elf_symbols::symbol_at(order, assembled, symbols.at, k);
+        let kind = symbols_names::kind_at(strings, entry.st_name as usize);
+        return taken_row(place_a(assembled, late, filling, k), kind);
+    }
+    no_row()
+}
+
+// Writes the rows of A's symbols behind C's.
+fn fill_a(
+    assembled: &[u8],
+    used: &[u8],
+    late: &[u8],
+    filling: Filling,
+    first: usize,
     rows: &mut [u8],
 )
-    requires { ⌜ FillReady (now compiled) (now assembled) (now statics) (now used) (now late) filling × (id < idCount (filling .sources))
-        × (ID_ROW * id + ID_ROW ≤ length (now rows)) ⌝ }
-    ensures { λ _. ⌜ (now (rows .exit) ≡ spliced (now (rows .entry)) (ID_ROW * id) (idRowBytes (rowOf (now (compiled .entry)) (now (assembled .entry)) (now (statics .entry)) (now (late .entry)) filling id)))
-        × (rowOf (now (compiled .entry)) (now (assembled .entry)) (now (statics .entry)) (now (late .entry)) filling id .binding < 16) ⌝ }
+    requires { ⌜ SourceReady (now assembled) (now used) (now late) filling × (first ≤ SYMBOL_LIMIT)
+        × (ID_ROW * (first + symbolCount (filling .inputs .order) (now assembled)) ≤ length (now rows)) ⌝ }
+    ensures { λ _. ⌜ RowsPut (rowA (now (assembled .entry)) (now (late .entry)) filling) first (symbolCount (filling .inputs .order) (now (assembled .entry))) (now (rows .entry)) (now (rows .exit)) ⌝ }
 {
-    let row = row_of(compiled, assembled, statics, used, late, filling, id);
-    symbols_rows::write_id(rows, id, row);
+    let inputs = filling.inputs;
+    let view = inputs.assembled;
+    let symbols = view.symbols;
+    let strings = elf_symbols::strings_of(assembled, symbols);
+    let n = symbols.count;
+    let mut k: usize = 0;
+    while k < n {
+        let row = row_a(assembled, strings, used, late, filling, k);
+        symbols_rows::write_id(rows, first + k, row);
+        k += 1;
+    }
+}
+
+// The row of static k: all are taken.
+fn row_static(compiled: &[u8], statics: &[u8], filling: Filling, k: usize) -> IdRow
+    requires { ⌜ AtStatic (now statics) filling k ⌝ }
+    ensures { λ r. ⌜ (r ≡ rowStatic (now (compiled .entry)) (now (statics .entry)) filling k) × Fits (r .binding) (r .section) ⌝ }
+{
+    let kind = symbols_names::static_kind(compiled, Static::read(statics, k));
+    taken_row(place_static(statics, filling, k), kind)
+}
+
+// Writes the rows of the n statics behind those of the symbols.
+fn fill_statics(
+    compiled: &[u8],
+    statics: &[u8],
+    filling: Filling,
+    n: usize,
+    first: usize,
+    rows: &mut [u8],
+)
+    requires { ⌜ StaticsReady (now statics) filling n × (first ≤ 2 * SYMBOL_LIMIT) × (ID_ROW * (first + n) ≤ length (now rows)) ⌝ }
+    ensures { λ _. ⌜ RowsPut (rowStatic (now (compiled .entry)) (now (statics .entry)) filling) first n (now (rows .entry)) (now (rows .exit)) ⌝ }
+{
+    let mut k: usize = 0;
+    while k < n {
+        let row = row_static(compiled, statics, filling, k);
+        symbols_rows::write_id(rows, first + k, row);
+        k += 1;
+    }
 }
 
 // How many ids there are.
@@ -325,11 +298,19 @@ pub fn fill_rows<'a>(
     requires { ⌜ FillReady (now compiled) (now assembled) (now statics) (now used) (now late) filling × (ID_ROW * idCount (filling .sources) ≤ length (now rows)) ⌝ }
     ensures { λ r. ⌜ FilledRows (now (compiled .entry)) (now (assembled .entry)) (now (statics .entry)) (now (late .entry)) filling (now (rows .entry)) r (now (rows .exit)) ⌝ }
 {
-    let n = id_count(filling.sources);
-    let mut id: usize = 0;
-    while id < n {
-        fill_row(compiled, assembled, statics, used, late, filling, id, rows);
-        id += 1;
-    }
-    n
+    let sources = filling.sources;
+    let own = sources.compiled;
+    let other = sources.assembled;
+    let first = own.count;
+    fill_c(compiled, filling.inputs, rows);
+    fill_a(assembled, used, late, filling, first, rows);
+    fill_statics(
+        compiled,
+        statics,
+        filling,
+        sources.statics,
+        first + other.count,
+        rows,
+    );
+    id_count(sources)
 }

@@ -1,5 +1,5 @@
 -- What one more word changes: it is there, and the words before it and all that stands behind it are as before. Assumes nothing.
-use Prim.Native.Nat.{ℕ, _+_, _*_, _≤_, _<_}
+use Prim.Native.Nat.{ℕ, _+_, _-_, _*_, _≤_, _<_}
 use mathlib.Core.Path.{_≡_, refl, sym, ap, _∙_}
 use mathlib.Core.List.{List}
 use native.Mathlib.Omega.{arith}
@@ -7,6 +7,7 @@ use lib.ListN.{length, drop}
 use lib.Seq.{drop-drop}
 use Rattle.base_lists.proofs.Ranges.{by-last}
 use Rattle.base_lists.proofs.Windows.{drop-spliced}
+use Rattle.base_fields.specs.declared.ByteOrder.{ByteOrder}
 use Rattle.base_fields.specs.declared.ByteOrder.the-variants.{Big}
 use Rattle.base_fields.specs.Numbers.{encoded}
 use Rattle.base_fields.proofs.Numbers.{length-encoded}
@@ -15,8 +16,30 @@ use Rattle.base_index.specs.Index.{hashOf, hashPlace, Built}
 use Rattle.base_index.proofs.Table.{withNumber, number-long, number-same, number-other, hash-same, hash-other}
 use Rattle.symbols_merge.specs.Candidates.{Candidates}
 use Rattle.symbols_merge.specs.Listed.{holderOf}
+use Rattle.symbols_names.specs.declared.Sources.{Sources}
+use Rattle.symbols_names.specs.Names.{firstIn, SourcesRead}
+use Rattle.symbols_names.proofs.Names.{other-count, name-other}
 use Rattle.symbols_rows.specs.Rows.{halfIn}
-use Rattle.symbols_holders.specs.Ready.{Hashed, ListIndexed, NamesHeld}
+use Rattle.symbols_holders.specs.Ready.{knownIn, KnownHashes, Hashed, ListIndexed, idName, NamesHeld}
+
+-- ---- hashes that are known
+
+-- the hash of A's symbol is that of its id
+pub known-is : (o : ByteOrder) (C A U : List ℕ) (s : Sources) (I : List ℕ) (known i r : ℕ) → SourcesRead o C A U s → KnownHashes o A known I → s .compiled .count ≤ i → i < firstIn s
+    → r ≡ knownIn I known (i - s .compiled .count) → r ≡ hashOf (idName o C A U s i)
+known-is o C A U s I known i r q h l u e =
+    e ∙ h .each (i - s .compiled .count) (omega (arith, other-count o C A U s q)) ∙ ap hashOf (name-other o C A U s q i l u)
+
+-- they stand behind all that is put
+pub known-kept : (o : ByteOrder) (A I J : List ℕ) (known p x : ℕ) → hashPlace p + 2 ≤ 2 * ID_LIMIT → J ≡ withNumber 2 I (hashPlace p) x → KnownHashes o A known I → KnownHashes o A known J
+unfolding knownIn
+known-kept o A I J known p x low e h =
+    let fits : hashPlace p + 2 ≤ length I = omega (arith, h .apart, h .room) in
+    rw e (record {
+      apart = h .apart;
+      room = rw (number-long 2 I (hashPlace p) x fits) (h .room);
+      each = λ k l. number-other 2 I (hashPlace p) x fits 2 (known + 2 * k) (λ u. omega (arith, h .apart)) ∙ h .each k l;
+    })
 
 -- ---- hashes put
 

@@ -8,8 +8,11 @@ use lib.ListN.{length, drop}
 use lib.Dec.{eqb}
 use Rattle.base_lists.specs.Strings.{same}
 use Rattle.base_fields.specs.declared.ByteOrder.{ByteOrder}
+use Rattle.base_fields.specs.declared.ByteOrder.the-variants.{Big}
+use Rattle.base_fields.specs.Numbers.{number}
 use Rattle.base_scope.specs.Limits.{ID_LIMIT}
 use Rattle.base_index.specs.Index.{hashOf, hashPlace, hashIn, Indexed}
+use Rattle.elf_symbols.specs.Symbols.{symbolCount, symbolName}
 use Rattle.statics_table.specs.Table.{staticsIn}
 use Rattle.symbols_merge.specs.Candidates.{Candidates}
 use Rattle.symbols_merge.specs.Listed.{listed}
@@ -17,6 +20,16 @@ use Rattle.symbols_ids.specs.Ids.{nameOf}
 use Rattle.symbols_names.specs.declared.Sources.{Sources}
 use Rattle.symbols_names.specs.Names.{firstIn, SourcesRead}
 use Rattle.symbols_rows.specs.Rows.{candidatesIn, RowsOf, halfIn, ListOf, HoldersOf}
+
+-- the hash of symbol k of a table of them that starts at `known`
+unfoldable pub knownIn : List ℕ → ℕ → ℕ → ℕ
+knownIn I known k = number Big 2 I (known + 2 * k)
+
+-- the hashes of the names of A's symbols stand there, behind those that are put for the list
+pub record KnownHashes (o : ByteOrder) (A : List ℕ) (known : ℕ) (I : List ℕ) : Type 0 where
+  pub apart : 2 * ID_LIMIT ≤ known
+  pub room : known + 2 * symbolCount o A ≤ length I
+  pub each : (k : ℕ) → k < symbolCount o A → knownIn I known k ≡ hashOf (symbolName o A k)
 
 -- each of the first m items of the index has the hash of the name of its position's id
 pub record Hashed (name : ℕ → List ℕ) (L I : List ℕ) (m : ℕ) : Type 0 where

@@ -3,19 +3,21 @@
 // `holderOf` in the crate symbols_merge, specs/Listed.antt; what is in hand, and what is left: specs/Ready.antt. Document 01, "Symbols": "Equal non-empty working names
 // merge, binding ignored".
 ghost use mathlib.Core.Path.{_≡_};
+ghost use mathlib.Core.Bool.{_&&_};
 ghost use mathlib.Core.List.{_++_};
 ghost use Prim.Native.Nat.{min, _+_, _*_, _≤_, _<_};
 ghost use lib.ListN.{length, getD, take};
+ghost use lib.Dec.{leb, ltb};
 ghost use Rattle.base_lists.specs.Windows.{spliced};
 ghost use Rattle.base_fields.specs.declared.ByteOrder.the-variants.{Big};
 ghost use Rattle.base_fields.specs.Numbers.{encoded};
 ghost use Rattle.base_index.specs.Index.{mixedByte, mixed, hashOf, hashPlace, Room};
-ghost use Rattle.base_scope.specs.Limits.{STATIC_LIMIT, ID_LIMIT};
+ghost use Rattle.base_scope.specs.Limits.{SYMBOL_LIMIT, STATIC_LIMIT, ID_LIMIT};
 ghost use Rattle.statics_table.specs.Statics.{countTail};
 ghost use Rattle.symbols_merge.specs.Listed.{holderOf};
-ghost use Rattle.symbols_names.specs.Names.{SourcesRead};
+ghost use Rattle.symbols_names.specs.Names.{firstIn, SourcesRead};
 ghost use Rattle.symbols_rows.specs.Rows.{halfIn};
-ghost use Rattle.symbols_holders.specs.Ready.{Hashed, ListIndexed, ListHeld, PositionHeld, alikeIn, idCount, idName, symbolsIn, HoldersReady, PositionReady, NamesHeld};
+ghost use Rattle.symbols_holders.specs.Ready.{knownIn, KnownHashes, Hashed, ListIndexed, ListHeld, PositionHeld, alikeIn, idCount, idName, symbolsIn, HoldersReady, PositionReady, NamesHeld};
 use base_fields::ByteOrder;
 use symbols_names::Sources;
 
@@ -67,18 +69,43 @@ fn joined_hash(stored: &[u8], number: u32) -> u32
     hash_tail(front, number, room)
 }
 
-// The hash of the working name of an id.
+// Whether an id is that of one of A's symbols.
+fn is_assembled(sources: Sources, id: usize) -> bool
+    requires { ⌜ firstIn sources ≤ 2 * SYMBOL_LIMIT ⌝ }
+    ensures { λ r. ⌜ r ≡ (leb (sources .compiled .count) id && ltb id (firstIn sources)) ⌝ }
+{
+    let own = sources.compiled;
+    let other = sources.assembled;
+    let first = own.count;
+    base_scope::both(first <= id, id < first + other.count)
+}
+
+// The hash of the name of A's symbol k, which the index has from `known` on.
+fn known_hash(index: &[u8], known: usize, k: usize) -> u32
+    requires { ⌜ known + 2 * k + 2 ≤ length (now index) ⌝ }
+    ensures { λ r. ⌜ r ≡ knownIn (now (index .entry)) known k ⌝ }
+{
+    base_fields::read16(ByteOrder::Big, index, known + 2 * k)
+}
+
+// The hash of the working name of an id. That of a symbol of A is known.
 fn name_hash<'a>(
     order: ByteOrder,
     compiled: &'a [u8],
     assembled: &'a [u8],
     statics: &[u8],
     sources: Sources,
+    known: usize,
+    index: &[u8],
     id: usize,
 ) -> u32
-    requires { ⌜ SourcesRead order (now compiled) (now assembled) (now statics) sources × (id < idCount sources) ⌝ }
+    requires { ⌜ SourcesRead order (now compiled) (now assembled) (now statics) sources × (id < idCount sources) × KnownHashes order (now assembled) known (now index) ⌝ }
     ensures { λ r. ⌜ r ≡ hashOf (idName order (now (compiled .entry)) (now (assembled .entry)) (now (statics .entry)) sources id) ⌝ }
 {
+    if is_assembled(sources, id) {
+        let own = sources.compiled;
+        return known_hash(index, known, id - own.count);
+    }
     let stored = symbols_names::stored_name(order, compiled, assembled, statics, sources, id);
     let count = symbols_names::name_count(statics, sources, id);
     joined_hash(stored, count)
@@ -92,19 +119,29 @@ fn put_hash<'a>(
     statics: &[u8],
     sources: Sources,
     list: &[u8],
+    known: usize,
     p: usize,
     index: &mut [u8],
 )
-    requires { ⌜ SourcesRead order (now compiled) (now assembled) (now statics) sources × PositionHeld sources (now list) (now index) p ⌝ }
+    requires { ⌜ SourcesRead order (now compiled) (now assembled) (now statics) sources × PositionHeld sources (now list) (now index) p × KnownHashes order (now assembled) known (now index) ⌝ }
     ensures { λ _. ⌜ now (index .exit) ≡ spliced (now (index .entry)) (hashPlace p) (encoded Big 2
         (hashOf (idName order (now (compiled .entry)) (now (assembled .entry)) (now (statics .entry)) sources (halfIn (now (list .entry)) p)))) ⌝ }
 {
     let id = symbols_rows::half_at(list, p);
-    let hash = name_hash(order, compiled, assembled, statics, sources, id);
+    let hash = name_hash(
+        order,
+        compiled,
+        assembled,
+        statics,
+        sources,
+        known,
+        index,
+        id,
+    );
     base_index::put_hash(index, p, hash);
 }
 
-// Puts the hashes of the names of the ids at the m positions of the list.
+// Puts the hashes of the names of the ids at the m positions of the list. Those of A's symbols stand in the index from `known` on, behind all that are put.
 fn put_hashes<'a>(
     order: ByteOrder,
     compiled: &'a [u8],
@@ -112,20 +149,32 @@ fn put_hashes<'a>(
     statics: &[u8],
     sources: Sources,
     list: &[u8],
+    known: usize,
     m: usize,
     index: &mut [u8],
 )
-    requires { ⌜ SourcesRead order (now compiled) (now assembled) (now statics) sources × ListHeld sources (now list) m × (m ≤ ID_LIMIT) × Room ID_LIMIT (now index) ⌝ }
+    requires { ⌜ SourcesRead order (now compiled) (now assembled) (now statics) sources × ListHeld sources (now list) m × (m ≤ ID_LIMIT) × Room ID_LIMIT (now index)
+        × KnownHashes order (now assembled) known (now index) ⌝ }
     ensures { λ _. ⌜ Hashed (idName order (now (compiled .entry)) (now (assembled .entry)) (now (statics .entry)) sources) (now (list .entry)) (now (index .exit)) m ⌝ }
 {
     let mut k: usize = 0;
     while k < m {
-        put_hash(order, compiled, assembled, statics, sources, list, k, index);
+        put_hash(
+            order,
+            compiled,
+            assembled,
+            statics,
+            sources,
+            list,
+            known,
+            k,
+            index,
+        );
         k += 1;
     }
 }
 
-// Indexes the m positions of the list by the hashes of the names of their ids.
+// Indexes the m positions of the list by the hashes of the names of their ids. Those of A's symbols stand in it from `known` on, and are written over.
 pub fn index_list<'a>(
     order: ByteOrder,
     compiled: &'a [u8],
@@ -133,13 +182,25 @@ pub fn index_list<'a>(
     statics: &[u8],
     sources: Sources,
     list: &[u8],
+    known: usize,
     m: usize,
     index: &mut [u8],
 )
-    requires { ⌜ SourcesRead order (now compiled) (now assembled) (now statics) sources × ListHeld sources (now list) m × (m ≤ ID_LIMIT) × Room ID_LIMIT (now index) ⌝ }
+    requires { ⌜ SourcesRead order (now compiled) (now assembled) (now statics) sources × ListHeld sources (now list) m × (m ≤ ID_LIMIT) × Room ID_LIMIT (now index)
+        × KnownHashes order (now assembled) known (now index) ⌝ }
     ensures { λ _. ⌜ ListIndexed (idName order (now (compiled .entry)) (now (assembled .entry)) (now (statics .entry)) sources) (now (list .entry)) (now (index .exit)) m ⌝ }
 {
-    put_hashes(order, compiled, assembled, statics, sources, list, m, index);
+    put_hashes(
+        order,
+        compiled,
+        assembled,
+        statics,
+        sources,
+        list,
+        known,
+        m,
+        index,
+    );
     base_index::build(index, base_scope::ID_LIMIT, m);
 }
 

@@ -1,3 +1,3 @@
 pub mod Tails
-pub mod Rests
+pub mod KindLaws
 pub mod Names

@@ -1,17 +1,15 @@
 -- Laws of working names by their parts: an id below the first static is a symbol's, and its name has no count; what is in hand says which. Assumes nothing.
 use Prim.Native.Nat.{ℕ, _+_, _-_, _≤_, _<_}
 use mathlib.Core.Path.{_≡_, refl, sym, ap, _∙_}
-use mathlib.Core.Bool.{Bool, false}
-use mathlib.Core.List.{List, [], _++_}
+use mathlib.Core.List.{List, _++_}
 use native.Mathlib.Omega.{arith}
 use lib.ListN.{length}
 use lib.Dec.{ltb}
 use borrow.Author.Tests.{lt-ltb, le-ltb}
-use Rattle.base_lists.specs.Strings.{same, nameAt}
+use Rattle.base_lists.specs.Strings.{nameAt}
 use Rattle.base_lists.proofs.Ranges.{by-test, by-lt}
 use Rattle.base_fields.specs.declared.ByteOrder.{ByteOrder}
 use Rattle.base_scope.specs.Limits.{STATIC_LIMIT}
-use Rattle.base_scope.specs.Text.{text}
 use Rattle.base_names.specs.declared.Owner.the-variants.{Compiled, Assembled}
 use Rattle.base_names.specs.Tables.{tableOf}
 use Rattle.elf_symbols.specs.Symbols.{symbolCount, symbol, symbolStrings, symbolName}
@@ -24,9 +22,8 @@ use Rattle.statics_table.proofs.Table.{length-statics, statics-at}
 use Rattle.statics_entry.specs.Entry.{nth}
 use Rattle.symbols_ids.specs.Ids.{firstA, firstStatic, byOrigin, nameOf}
 use Rattle.symbols_names.specs.declared.Sources.{Sources}
-use Rattle.symbols_names.specs.declared.NameKind.{NameKind}
-use Rattle.symbols_names.specs.Names.{storedOf, kindOf, nameCount, firstIn, nameCountIn, RowsHeld, SourcesRead}
-use Rattle.symbols_names.proofs.Tails.{joined-none, kind-counted, kind-stored}
+use Rattle.symbols_names.specs.Names.{storedOf, nameCount, firstIn, nameCountIn, RowsHeld, SourcesRead}
+use Rattle.symbols_names.proofs.Tails.{joined-none}
 
 module _ (o : ByteOrder) (C A : List ℕ) (S : List Static) (i : ℕ) where
   -- a working name is its stored name and the tail of its count
@@ -116,6 +113,19 @@ module _ (o : ByteOrder) (C A T : List ℕ) (s : Sources) (r : SourcesRead o C A
     stored-static x f first h l is =
         rw (first-a, first-static, ← first, le-ltb i (s .compiled .count) (omega arith), le-ltb i f h, nth-row (i - f) (omega arith), is)
 
+    -- a symbol's working name is its name, and a static's is that of its row
+    pub name-own : i < s .compiled .count → symbolName o C i ≡ nameOf o C A (staticsIn T (s .statics)) i
+    unfolding nameOf byOrigin
+    name-own h = rw (first-a, lt-ltb i (s .compiled .count) h)
+
+    pub name-other : s .compiled .count ≤ i → i < firstIn s → symbolName o A (i - s .compiled .count) ≡ nameOf o C A (staticsIn T (s .statics)) i
+    unfolding nameOf byOrigin
+    name-other h l = rw (first-a, first-static, le-ltb i (s .compiled .count) h, lt-ltb i (firstIn s) l)
+
+    pub name-static : firstIn s ≤ i → i < firstIn s + s .statics → workingName C (staticIn T (i - firstIn s)) ≡ nameOf o C A (staticsIn T (s .statics)) i
+    unfolding nameOf byOrigin
+    name-static h l = rw (first-a, first-static, le-ltb i (s .compiled .count) (omega arith), le-ltb i (firstIn s) h, nth-row (i - firstIn s) (omega arith))
+
     -- the count of what is in hand is the count of the id
     module _ (l : i < firstIn s + s .statics) where
       pub number-is : nameCountIn T s i ≡ nameCount o C A (staticsIn T (s .statics)) i
@@ -138,12 +148,3 @@ module _ (o : ByteOrder) (C A T : List ℕ) (s : Sources) (r : SourcesRead o C A
       pub name-joined : (a : List ℕ) (n : ℕ) → a ≡ storedOf o C A (staticsIn T (s .statics)) i → n ≡ nameCountIn T s i
           → a ++ countTail n ≡ nameOf o C A (staticsIn T (s .statics)) i
       name-joined a n e is = ap (λ (x : List ℕ). x ++ countTail n) e ∙ name-counted n is
-
-      -- the kind of a name by its parts in hand
-      pub kind-count : (n : ℕ) → n ≡ nameCountIn T s i → (n ≡ 0 → ⊥)
-          → _≡_ {A = NameKind} (record { unnamed = false; «gp_disp» = false }) (kindOf (nameOf o C A (staticsIn T (s .statics)) i))
-      kind-count n is d = kind-counted _ (storedOf o C A (staticsIn T (s .statics)) i) n (name-counted n is) d
-
-      pub kind-plain : (a : List ℕ) (n : ℕ) (u g : Bool) → a ≡ storedOf o C A (staticsIn T (s .statics)) i → n ≡ nameCountIn T s i → n ≡ 0 → u ≡ same a [] → g ≡ same a (text "_gp_disp")
-          → _≡_ {A = NameKind} (record { unnamed = u; «gp_disp» = g }) (kindOf (nameOf o C A (staticsIn T (s .statics)) i))
-      kind-plain a n u g e is z empty gp = kind-stored _ a n (name-joined a n e is) u g z empty gp

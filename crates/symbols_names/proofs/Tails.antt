@@ -1,13 +1,13 @@
 -- Laws of a stored name and the tail of its count: its bytes, and when two are equal. A digit is the last one of the number without those behind it. Assumes nothing.
 use Prim.Native.Nat.{ℕ, zero, suc, _+_, _-_, _/_, _%_, _≤_, _<_}
 use mathlib.Core.Path.{_≡_, refl, sym, ap, _∙_}
-use mathlib.Core.Bool.{Bool, true, false, _&&_}
+use mathlib.Core.Bool.{Bool, true, false}
 use mathlib.Core.List.{List, [], _∷_, _++_, append-nil}
 use native.Mathlib.Omega.{arith}
 use lib.ListN.{length, take, drop, getD, length-append, List·getD-append}
 use lib.Seq.{getD-at, getD-append-add, take-at}
 use lib.Dec.{eqb}
-use borrow.Author.Tests.{eq-eqb, ne-eqb, lt-ltb, le-ltb, eqb-true, eqb-false}
+use borrow.Author.Tests.{ne-eqb, lt-ltb, le-ltb, eqb-true, eqb-false}
 use Rattle.base_lists.specs.Strings.{same}
 use Rattle.base_lists.proofs.Ranges.{by-test, by-lt}
 use Rattle.base_lists.proofs.Strings.{same-true, same-false, same-eq, same-ne, same-next, same-not}
@@ -161,41 +161,22 @@ no-colon (suc (suc (suc (suc (suc (suc zero)))))) e = absurd (omega arith)
 no-colon (suc (suc (suc (suc (suc (suc (suc zero))))))) e = absurd (omega arith)
 no-colon (suc (suc (suc (suc (suc (suc (suc (suc k)))))))) e = absurd (omega arith)
 
--- a string without bytes
-empty-same : (a : List ℕ) → same a [] ≡ eqb (length a) 0
-unfolding same
-empty-same [] = refl
-empty-same (x ∷ a) = sym (ne-eqb (length (x ∷ a)) 0 (λ e. omega arith))
-
 -- a name w of those parts
 module _ (w a : List ℕ) (n : ℕ) (is : a ++ countTail n ≡ w) where
-  pub gp-counted : (n ≡ 0 → ⊥) → false ≡ same w (text "_gp_disp")
+  gp-counted : (n ≡ 0 → ⊥) → false ≡ same w (text "_gp_disp")
   gp-counted d =
       let c : getD (a ++ countTail n) (length a) 0 ≡ 58 = rw (tail-some n d) (getD-at a 58 (digitsText 9 n) 0 (length a) refl) in
       sym (same-ne _ _ (λ e. no-colon (length a) (ap (λ (x : List ℕ). getD x (length a) 0) (sym (is ∙ e)) ∙ c)))
 
-  pub gp-stored : (r : Bool) → n ≡ 0 → r ≡ same a (text "_gp_disp") → r ≡ same w (text "_gp_disp")
-  gp-stored r e told = told ∙ ap (λ (x : List ℕ). same x (text "_gp_disp")) (joined-none a n e ∙ is)
+  named-counted : (n ≡ 0 → ⊥) → false ≡ eqb (length w) 0
+  named-counted d =
+      let l : length (countTail n) ≡ length (58 ∷ digitsText 9 n) = ap length (tail-some n d) in
+      sym (ne-eqb (length w) 0 (λ z. omega (arith, l, z, length-append a (countTail n), ap length is)))
 
-  -- a name is empty where nothing is stored and there is no count
-  pub unnamed-parts : (r e : Bool) → e ≡ same a [] → r ≡ (eqb n 0 && e) → r ≡ eqb (length w) 0
-  unnamed-parts r e told put = put ∙ by-test (eqb n 0)
-      (λ t. rw t (told ∙ empty-same a ∙ ap (λ (x : List ℕ). eqb (length x) 0) (joined-none a n (eqb-true n 0 t) ∙ is)))
-      (λ f.
-      let l : length (countTail n) ≡ length (58 ∷ digitsText 9 n) = ap length (tail-some n (eqb-false n 0 f)) in
-      rw f (sym (ne-eqb (length w) 0 (λ z. omega (arith, l, z, length-append a (countTail n), ap length is)))))
-
-  -- so its parts tell its kind
+  -- so its kind is told
   pub kind-counted : (n ≡ 0 → ⊥) → _≡_ {A = NameKind} (record { unnamed = false; «gp_disp» = false }) (kindOf w)
   unfolding kindOf
   kind-counted d =
-      let u : false ≡ eqb (length w) 0 = unnamed-parts false (same a []) refl (rw (ne-eqb n 0 d)) in
+      let u : false ≡ eqb (length w) 0 = named-counted d in
       let g : false ≡ same w (text "_gp_disp") = gp-counted d in
       λ k. record { unnamed = u k; «gp_disp» = g k }
-
-  pub kind-stored : (u g : Bool) → n ≡ 0 → u ≡ same a [] → g ≡ same a (text "_gp_disp") → _≡_ {A = NameKind} (record { unnamed = u; «gp_disp» = g }) (kindOf w)
-  unfolding kindOf
-  kind-stored u g e empty gp =
-      let x : u ≡ eqb (length w) 0 = unnamed-parts u u empty (rw (eq-eqb n 0 e)) in
-      let y : g ≡ same w (text "_gp_disp") = gp-stored g e gp in
-      λ k. record { unnamed = x k; «gp_disp» = y k }

@@ -2,6 +2,7 @@
 // level 1 `:` and its count; it stands nowhere in one piece, so it is read and compared by its two parts. Each function equals its definition: `nameOf` in the crate
 // symbols_ids, specs/Ids.antt, and its parts in specs/Names.antt. Document 01, "Symbols" and "Statics".
 ghost use mathlib.Core.Path.{_≡_};
+ghost use mathlib.Core.Bool.{not, _&&_};
 ghost use mathlib.Core.List.{_++_};
 ghost use Prim.Native.Nat.{_+_, _*_, _%_, _≤_, _<_};
 ghost use lib.ListN.{length, getD};
@@ -9,7 +10,7 @@ ghost use lib.Dec.{eqb};
 ghost use Rattle.base_lists.specs.Strings.{same, nameAt};
 ghost use Rattle.base_scope.specs.Limits.{SYMBOL_LIMIT, STATIC_LIMIT};
 ghost use Rattle.elf_symbols.specs.Symbols.{symbolCount, symbol, symbolName, Table};
-ghost use Rattle.statics_table.specs.Statics.{countTail};
+ghost use Rattle.statics_table.specs.Statics.{countTail, workingName};
 ghost use Rattle.statics_table.specs.Table.{staticsIn};
 ghost use Rattle.symbols_ids.specs.Ids.{nameOf};
 ghost use Rattle.symbols_names.specs.Names.{firstIn, storedOf, kindOf, nameCountIn, withoutLast, RowsHeld, SourcesRead};
@@ -88,49 +89,6 @@ pub fn stored_name<'a>(
     }
     let s = Static::read(statics, id - first);
     base_names::name_at(compiled, s.start as usize)
-}
-
-// A table from the start of a name on: its end is not searched, since names may be long, and each id is asked.
-fn rest_at<'a>(t: &'a [u8], at: usize) -> &'a [u8]
-    ensures { λ r. ⌜ nameAt (now r) 0 ≡ nameAt (now (t .entry)) at ⌝ }
-{
-    if at > t.len() {
-        return &t[0..0];
-    }
-    &t[at..]
-}
-
-// An object's strings from the name of symbol k on.
-fn symbol_rest<'a>(order: ByteOrder, file: &'a [u8], table: SymbolTable, k: usize) -> &'a [u8]
-    requires { ⌜ Table order (now file) table × (k < symbolCount order (now file)) ⌝ }
-    ensures { λ r. ⌜ nameAt (now r) 0 ≡ symbolName order (now (file .entry)) k ⌝ }
-{
-    let strings = elf_symbols::strings_of(file, table);
-    rest_at(strings, name_start(order, file, table, k))
-}
-
-// Where the stored name of an id stands, from it on.
-fn stored_rest<'a>(
-    order: ByteOrder,
-    compiled: &'a [u8],
-    assembled: &'a [u8],
-    statics: &[u8],
-    sources: Sources,
-    id: usize,
-) -> &'a [u8]
-    requires { ⌜ SourcesRead order (now compiled) (now assembled) (now statics) sources × (id < firstIn sources + sources .statics) ⌝ }
-    ensures { λ r. ⌜ nameAt (now r) 0 ≡ storedOf order (now (compiled .entry)) (now (assembled .entry)) (staticsIn (now (statics .entry)) (sources .statics)) id ⌝ }
-{
-    let own = sources.compiled;
-    if id < own.count {
-        return symbol_rest(order, compiled, own, id);
-    }
-    let first = first_static(sources);
-    if id < first {
-        return symbol_rest(order, assembled, sources.assembled, id - own.count);
-    }
-    let row = Static::read(statics, id - first);
-    rest_at(compiled, row.start as usize)
 }
 
 // The count behind the stored name of an id; 0 where there is none.
@@ -229,7 +187,53 @@ pub struct NameKind {
     pub gp_disp: bool,
 }
 
-// The kind of the working name of an id; one with a count has a colon.
+// Whether a name that begins with this byte is any other.
+fn is_other(byte: u8) -> bool
+    ensures { λ r. ⌜ r ≡ (not (eqb byte 0) && not (eqb byte 95)) ⌝ }
+{
+    base_scope::both(byte != 0, byte != b'_')
+}
+
+// The kind of the name at `at` of a table. Most names begin with a letter, and that tells it.
+pub fn kind_at(t: &[u8], at: usize) -> NameKind
+    ensures { λ r. ⌜ r ≡ kindOf (nameAt (now (t .entry)) at) ⌝ }
+{
+    if at < t.len() {
+        if is_other(t[at]) {
+            return NameKind {
+                unnamed: false,
+                gp_disp: false,
+            };
+        }
+    }
+    let unnamed = base_names::name_is(t, at, b"");
+    let gp_disp = base_names::name_is(t, at, b"_gp_disp");
+    NameKind { unnamed, gp_disp }
+}
+
+// The kind of the name of an object's symbol k.
+fn symbol_kind(order: ByteOrder, file: &[u8], table: SymbolTable, k: usize) -> NameKind
+    requires { ⌜ Table order (now file) table × (k < symbolCount order (now file)) ⌝ }
+    ensures { λ r. ⌜ r ≡ kindOf (symbolName order (now (file .entry)) k) ⌝ }
+{
+    let strings = elf_symbols::strings_of(file, table);
+    kind_at(strings, name_start(order, file, table, k))
+}
+
+// The kind of the working name of a static; one with a count has a colon.
+pub fn static_kind(compiled: &[u8], s: Static) -> NameKind
+    ensures { λ r. ⌜ r ≡ kindOf (workingName (now (compiled .entry)) s) ⌝ }
+{
+    if s.number != 0 {
+        return NameKind {
+            unnamed: false,
+            gp_disp: false,
+        };
+    }
+    kind_at(compiled, s.start as usize)
+}
+
+// The kind of the working name of an id, by where it comes from.
 pub fn name_kind<'a>(
     order: ByteOrder,
     compiled: &'a [u8],
@@ -241,17 +245,17 @@ pub fn name_kind<'a>(
     requires { ⌜ SourcesRead order (now compiled) (now assembled) (now statics) sources × (id < firstIn sources + sources .statics) ⌝ }
     ensures { λ r. ⌜ r ≡ kindOf (nameOf order (now (compiled .entry)) (now (assembled .entry)) (staticsIn (now (statics .entry)) (sources .statics)) id) ⌝ }
 {
-    let count = name_count(statics, sources, id);
-    if count != 0 {
-        return NameKind {
-            unnamed: false,
-            gp_disp: false,
-        };
+    let own = sources.compiled;
+    let other = sources.assembled;
+    let first = own.count;
+    if id < first {
+        return symbol_kind(order, compiled, own, id);
     }
-    let rest = stored_rest(order, compiled, assembled, statics, sources, id);
-    let unnamed = base_names::name_is(rest, 0, b"");
-    let gp_disp = base_names::name_is(rest, 0, b"_gp_disp");
-    NameKind { unnamed, gp_disp }
+    let behind = first_static(sources);
+    if id < behind {
+        return symbol_kind(order, assembled, other, id - first);
+    }
+    static_kind(compiled, Static::read(statics, id - behind))
 }
 
 // Whether two ids have one working name. Behind equal counts the stored names decide.

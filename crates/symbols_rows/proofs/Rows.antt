@@ -132,18 +132,9 @@ module _ (T : List ℕ) (i : ℕ) (row : IdRow) (fits : ID_ROW * i + ID_ROW ≤ 
   written-other j d =
       rw (word-other j (ID_ROW * j) d (omega arith) (omega arith), word-other j (ID_ROW * j + 4) d (omega arith) (omega arith))
 
--- rows filled one by one: the first i are those that f gives
-module _ (f : ℕ → IdRow) where
-  abbrev pub Filled : List ℕ → ℕ → Type 0
-  Filled T i = (j : ℕ) → j < i → idRow T j ≡ f j
-
-  pub filled-none : (T : List ℕ) → Filled T 0
-  filled-none T j h = absurd (omega arith)
-
-  pub filled-next : (T : List ℕ) (i : ℕ) → ID_ROW * i + ID_ROW ≤ length T → f i .binding < 16 → Filled T i → Filled (spliced T (ID_ROW * i) (idRowBytes (f i))) (i + 1)
-  filled-next T i h small w j l = by-lt j i
-      (λ u. written-other T i (f i) h j (λ e. absurd (omega arith)) ∙ w j u)
-      (λ u. let e : j ≡ i = omega arith in rw e (written-same T i (f i) h small))
+-- the first i rows are those that f gives
+abbrev pub Filled : (ℕ → IdRow) → List ℕ → ℕ → Type 0
+Filled f T i = (j : ℕ) → j < i → idRow T j ≡ f j
 
 -- ---- words
 

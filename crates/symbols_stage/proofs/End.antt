@@ -249,10 +249,10 @@ module _ (C A B : List ℕ) (s : Stage) (w : Manner) (table places steps index :
         marks-2 : Within (usedBytes o A) 0 (usedPart steps2)
         marks-2 = rw used-2 marks
 
-        pub statics-list : (f : Filling) → f ≡ fillingOf s (w .mode) (r .tally .count) → (index1 : List ℕ) → length index1 ≡ length index
-            → FillReady C A (staticsPart steps2) (usedPart steps2) (lateStepPart steps2) f × BuffersHeld table places steps2 index1
+        pub statics-list : (f : Filling) → f ≡ fillingOf s (w .mode) (r .tally .count) → (index1 : List ℕ) → length index1 ≡ length index → SymbolIndex o A (namesPart index1)
+            → FillReady C A (staticsPart steps2) (usedPart steps2) (lateStepPart steps2) f × BuffersHeld table places steps2 index1 × SymbolIndex (f .inputs .order) A (namesPart index1)
         unfolding fillingOf
-        statics-list f is index1 same = (
+        statics-list f is index1 same x = (
           rw is (fill-ready C A P B (staticsPart steps2) (lateStepPart steps2) (fillingOf s (w .mode) (r .tally .count)) fill-2 (usedPart steps2) marks-2),
           record {
             table-long = held .table-long;
@@ -260,6 +260,7 @@ module _ (C A B : List ℕ) (s : Stage) (w : Manner) (table places steps index :
             steps-long = rw (early .long) (held .steps-long);
             index-long = rw same (held .index-long);
           },
+          rw is x,
         )
 
         -- and the list answers

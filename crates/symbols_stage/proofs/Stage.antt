@@ -1,13 +1,15 @@
 -- What each step asks and leaves, table by table. Assumes nothing.
 use Prim.Native.Nat.{ℕ, _+_, _-_, _*_, _≤_}
-use mathlib.Core.Path.{_≡_, refl, ap, _∙_}
+use mathlib.Core.Path.{_≡_, refl, sym, ap, _∙_}
 use mathlib.Core.List.{List}
 use native.Mathlib.Omega.{arith}
 use lib.ListN.{length}
 use Rattle.base_lists.specs.Windows.{Within, spliced}
 use Rattle.base_fields.specs.declared.ByteOrder.{ByteOrder}
-use Rattle.base_index.specs.Index.{Room}
-use Rattle.base_scope.specs.Limits.{LATE_TABLE, STATIC_TABLE, USED_TABLE, GLABEL_TABLE, SYMBOL_LIMIT, ID_LIMIT, ID_ROW, ID_TABLE, POSITION_TABLE}
+use Rattle.base_fields.specs.declared.ByteOrder.the-variants.{Big}
+use Rattle.base_fields.proofs.Numbers.{number-part}
+use Rattle.base_index.specs.Index.{Room, hashIn}
+use Rattle.base_scope.specs.Limits.{LATE_TABLE, STATIC_TABLE, USED_TABLE, GLABEL_TABLE, SYMBOL_LIMIT, ID_LIMIT, ID_ROW, ID_TABLE, POSITION_TABLE, SYMBOL_INDEX}
 use Rattle.base_answers.specs.declared.Verdict.{Verdict}
 use Rattle.elf_symbols.specs.Symbols.{symbolCount, symbolName, Table}
 use Rattle.elf_index.specs.Index.{SymbolIndex}
@@ -16,7 +18,7 @@ use Rattle.blocks_file.specs.Blocks.{blockCount}
 use Rattle.blocks_places.specs.Lines.{lineCount}
 use Rattle.blocks_places.specs.Table.{placesIn, Laid}
 use Rattle.base_buffers.specs.Parts.{partAt, KeptBefore}
-use Rattle.merge_buffers.specs.Buffers.{ROWS_AT, BLOCK_BUFFER, HOLDERS_AT, PLACE_BUFFER, USED_AT, STATIC_AT, GLABELS_AT, LIST_AT, STEP_BUFFER, NUMBERS_AT, INDEX_BUFFER, blocksPart, idsPart, placesPart, lateStepPart, usedPart, staticsPart, listPart, namesPart, orderPart, BuffersHeld}
+use Rattle.merge_buffers.specs.Buffers.{ROWS_AT, BLOCK_BUFFER, HOLDERS_AT, PLACE_BUFFER, USED_AT, STATIC_AT, GLABELS_AT, LIST_AT, STEP_BUFFER, NUMBERS_AT, NAMES_AT, INDEX_BUFFER, blocksPart, idsPart, placesPart, lateStepPart, usedPart, staticsPart, listPart, namesPart, orderPart, BuffersHeld}
 use Rattle.base_buffers.proofs.Parts.{lent, putBack, kept-part, part-long, part-lent, put-table, put-kept}
 use Rattle.merge_inputs.specs.declared.Inputs.{Inputs}
 use Rattle.merge_sections.specs.declared.Stage.{Stage}
@@ -29,7 +31,7 @@ use Rattle.symbols_taken.proofs.Marks.{used-within}
 use Rattle.symbols_glabels.specs.Words.{glabelWord, Holds, GlabelsReady}
 use Rattle.symbols_rows.specs.Rows.{halvesIn, HoldersOf}
 use Rattle.symbols_rows.specs.Steps.{idsListed, Listing as IdsListing}
-use Rattle.symbols_holders.specs.Ready.{idCount, symbolsIn, HoldersReady}
+use Rattle.symbols_holders.specs.Ready.{knownIn, KnownHashes, idCount, symbolsIn, HoldersReady}
 use Rattle.symbols_numbers.specs.Numbers.{Tables, IdRoom, orderIn, groupStarts, IdsNumbered}
 use Rattle.symbols_fill.specs.declared.Filling.{Filling}
 use Rattle.symbols_fill.specs.Fill.{FillReady, FilledRows}
@@ -163,10 +165,20 @@ module _ (C A : List ℕ) (f : Filling) (m : ℕ) (table steps places index stat
   holders-long : length (lent from to places) ≡ POSITION_TABLE
   holders-long = ap length (part-lent HOLDERS_AT POSITION_TABLE from to places starts ends) ∙ part-long HOLDERS_AT POSITION_TABLE places (omega (arith, held .places-long))
 
-  pub hold-ready : HoldersReady (f .inputs .order) C A statics (f .sources) rows list m × Room ID_LIMIT index × (2 * m ≤ length (lent from to places))
-  hold-ready =
+  -- the hashes of A's index stand behind those of the list
+  known-hashes : SymbolIndex (f .inputs .order) A (namesPart index) → KnownHashes (f .inputs .order) A NAMES_AT index
+  unfolding knownIn hashIn partAt
+  known-hashes x = record {
+    apart = omega arith;
+    room = omega (arith, held .index-long, x .indexed .many);
+    each = λ k h. sym (number-part Big 2 index NAMES_AT SYMBOL_INDEX (2 * k) (omega (arith, h, x .indexed .many))) ∙ x .hashes k h;
+  }
+
+  pub hold-ready : SymbolIndex (f .inputs .order) A (namesPart index)
+      → HoldersReady (f .inputs .order) C A statics (f .sources) rows list m × Room ID_LIMIT index × (2 * m ≤ length (lent from to places)) × KnownHashes (f .inputs .order) A NAMES_AT index
+  hold-ready x =
       let few = ready-few (f .inputs .order) C A (staticsPart steps) (f .sources) (idsPart table) (listPart steps) m ready in
-      (rw (u, t, l) ready, record { few = omega arith; long = omega (arith, held .index-long) }, omega (arith, holders-long, few))
+      (rw (u, t, l) ready, record { few = omega arith; long = omega (arith, held .index-long) }, omega (arith, holders-long, few), known-hashes x)
 
   pub held-of : (part : List ℕ) → length part ≡ length (lent from to places) → HoldersOf (symbolsIn (f .inputs .order) C A statics (f .sources) rows) part m
       → IdsHeldIn (symbolsIn (f .inputs .order) C A (staticsPart steps) (f .sources) (idsPart table)) m places (putBack from to places part)

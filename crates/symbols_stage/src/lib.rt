@@ -103,7 +103,7 @@ fn read_glabels(
     let symbols = source.symbols;
     let blocks = base_buffers::part(table, 0, base_scope::BLOCK_TABLE);
     let lines = base_buffers::part(places, 0, base_scope::PLACE_TABLE);
-    let names = base_buffers::part(index, 0, base_scope::SYMBOL_INDEX);
+    let names = base_buffers::part(index, merge_buffers::NAMES_AT, base_scope::SYMBOL_INDEX);
     let from = base_buffers::bound(merge_buffers::GLABELS_AT);
     let to = base_buffers::bound(merge_buffers::LIST_AT);
     symbols_glabels::mark_glabels(
@@ -166,7 +166,7 @@ fn list_symbols<'a>(
     symbols_rows::list_ids(rows, n, &mut steps[from..to])
 }
 
-// Leaves the holders of the m positions of the list.
+// Leaves the holders of the m positions of the list. The index of A's symbols is written over.
 fn hold_symbols<'a>(
     compiled: &'a [u8],
     assembled: &'a [u8],
@@ -178,7 +178,7 @@ fn hold_symbols<'a>(
     index: &mut [u8],
 )
     requires { ⌜ HoldersReady (filling .inputs .order) (now compiled) (now assembled) (staticsPart (now steps)) (filling .sources) (idsPart (now table)) (listPart (now steps)) m
-        × BuffersHeld (now table) (now places) (now steps) (now index) ⌝ }
+        × BuffersHeld (now table) (now places) (now steps) (now index) × SymbolIndex (filling .inputs .order) (now assembled) (namesPart (now index)) ⌝ }
     ensures { λ _. ⌜ IdsHeldIn (symbolsIn (filling .inputs .order) (now (compiled .entry)) (now (assembled .entry)) (staticsPart (now (steps .entry))) (filling .sources) (idsPart (now (table .entry)))) m
         (now (places .entry)) (now (places .exit)) ⌝ }
 {
@@ -197,6 +197,7 @@ fn hold_symbols<'a>(
         filling.sources,
         rows,
         list,
+        merge_buffers::NAMES_AT,
         m,
         index,
         &mut places[from..to],
@@ -317,7 +318,7 @@ fn merge_list<'a>(
     index: &mut [u8],
 ) -> SymbolsEnd
     requires { ⌜ FillReady (now compiled) (now assembled) (staticsPart (now steps)) (usedPart (now steps)) (lateStepPart (now steps)) filling
-        × BuffersHeld (now table) (now places) (now steps) (now index) ⌝ }
+        × BuffersHeld (now table) (now places) (now steps) (now index) × SymbolIndex (filling .inputs .order) (now assembled) (namesPart (now index)) ⌝ }
     ensures { λ r. ⌜ ListEnd (now (compiled .entry)) (now (assembled .entry)) filling r (now (table .entry)) (now (table .exit)) (now (places .entry)) (now (places .exit)) (now (steps .entry)) (now (steps .exit)) (now (index .exit)) ⌝ }
 {
     let m = list_symbols(compiled, assembled, filling, table, steps);
@@ -394,7 +395,7 @@ fn merge_statics<'a>(
     }
 }
 
-// Refusals 15 to 19 in order, and the numbering of the result where none refuses: its tables stand in the buffers then. The index of A's symbols stands at the start of its
+// Refusals 15 to 19 in order, and the numbering of the result where none refuses: its tables stand in the buffers then. The index of A's symbols stands at the end of its
 // buffer, and is written over.
 pub fn merge_symbols<'a>(
     compiled: &'a [u8],

@@ -125,18 +125,19 @@ module _ (runs : Bool) (late : List ℕ) (n x : ℕ) where
   value-read m z e = rw (ne-eqb x 0 z, e)
 
 module _ (o : ByteOrder) (A : List ℕ) (runs : Bool) (late : List ℕ) (n k : ℕ) where
-  module _ (v : View) (is : v ≡ viewOf o A) (e : SymbolEntry) (c : ℕ) (entry : e ≡ symbol o A k) (code : c ≡ codeIn v (e .«st_shndx»)) where
-    code-read : c ≡ symbolCode o A k
+  -- b says whether the symbol's section is .late_rodata
+  module _ (v : View) (is : v ≡ viewOf o A) (e : SymbolEntry) (b : Bool) (entry : e ≡ symbol o A k) (told : b ≡ eqb (codeIn v (e .«st_shndx»)) LATE-RODATA) where
+    late-read : b ≡ eqb (symbolCode o A k) LATE-RODATA
     unfolding symbolCode
-    code-read = code ∙ code-is o A v is (e .«st_shndx») ∙ ap (λ (x : SymbolEntry). codeOf o A (x .«st_shndx»)) entry
+    late-read = told ∙ ap (λ (x : ℕ). eqb x LATE-RODATA) (code-is o A v is (e .«st_shndx») ∙ ap (λ (x : SymbolEntry). codeOf o A (x .«st_shndx»)) entry)
 
-    pub unmoved-other : (c ≡ LATE-RODATA → ⊥) → false ≡ isUnmovedIn o A runs late n k
+    pub unmoved-other : b ≡ false → false ≡ isUnmovedIn o A runs late n k
     unfolding isUnmovedIn
-    unmoved-other d = rw (← code-read, ne-eqb c LATE-RODATA d, and-no (isTakenA o A k))
+    unmoved-other f = rw (← late-read, f, and-no (isTakenA o A k))
 
-    pub unmoved-read : (r : Bool) → c ≡ LATE-RODATA → isTakenA o A k ≡ true → r ≡ isUnmovedValue runs late n (e .«st_value») → r ≡ isUnmovedIn o A runs late n k
+    pub unmoved-read : (r : Bool) → b ≡ true → isTakenA o A k ≡ true → r ≡ isUnmovedValue runs late n (e .«st_value») → r ≡ isUnmovedIn o A runs late n k
     unfolding isUnmovedIn
-    unmoved-read r d t f = rw (t, ← code-read, eq-eqb c LATE-RODATA d, f, entry)
+    unmoved-read r y t f = rw (t, ← late-read, y, f, entry)
 
   pub unmoved-left : isTakenA o A k ≡ false → false ≡ isUnmovedIn o A runs late n k
   unfolding isUnmovedIn

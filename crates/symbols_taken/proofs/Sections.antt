@@ -1,13 +1,13 @@
 -- The codes of the sections of an object that is read by its view, and its tables that relocate one of the five. Assumes nothing.
 use Prim.Native.Nat.{ℕ, _+_, _≤_}
-use mathlib.Core.Path.{_≡_, sym, _∙_}
+use mathlib.Core.Path.{_≡_, sym, ap, _∙_}
 use mathlib.Core.Bool.{Bool, true, false, _&&_}
 use mathlib.Core.List.{List}
 use native.Mathlib.Omega.{arith}
 use lib.Dec.{eqb, leb}
-use borrow.Author.Tests.{lt-ltb, le-ltb, le-leb, lt-leb}
+use borrow.Author.Tests.{eqb-true, lt-ltb, le-ltb, le-leb, lt-leb}
 use Rattle.base_lists.specs.Ranges.{first}
-use Rattle.base_lists.proofs.Ranges.{by-lt, first-low, first-high, first-ext, and-parts}
+use Rattle.base_lists.proofs.Ranges.{by-lt, first-low, first-high, first-is, first-ext, and-parts}
 use Rattle.base_fields.specs.declared.ByteOrder.{ByteOrder}
 use Rattle.base_scope.specs.Codes.{TEXT, LATE-RODATA, CODES}
 use Rattle.elf_records.specs.declared.section.SectionHeader.{SectionHeader}
@@ -31,6 +31,13 @@ module _ (v : View) (s : ℕ) where
   pub code-range : (1 ≤ codeIn v s) × (codeIn v s ≤ CODES)
   unfolding codeIn
   code-range = (first-low (isSectionIn v s) TEXT (LATE-RODATA + 1), first-high (isSectionIn v s) TEXT (LATE-RODATA + 1) (omega arith))
+
+  -- a section of the last of the five is the one that the view has for it
+  pub late-section : codeIn v s ≡ LATE-RODATA → sectionIn v LATE-RODATA ≡ s
+  unfolding codeIn isSectionIn
+  late-section e =
+      let t : isSectionIn v s (first (isSectionIn v s) TEXT (LATE-RODATA + 1)) ≡ true = first-is (isSectionIn v s) TEXT (LATE-RODATA + 1) (omega arith) .here (omega (arith, e)) in
+      eqb-true _ _ (and-parts (hasIn v LATE-RODATA) (eqb (sectionIn v LATE-RODATA) s) (ap (isSectionIn v s) (sym e) ∙ t) .1)
 
   pub source-read : (c : ℕ) → c ≡ codeIn v s → leb c LATE-RODATA ≡ isSourceIn v s
   unfolding isSourceIn

@@ -12,6 +12,7 @@ ghost use Rattle.base_buffers.specs.Buffers.{zeros};
 ghost use Rattle.base_scope.specs.Codes.{LATE-RODATA, CODES};
 ghost use Rattle.base_scope.specs.Limits.{SYMBOL_LIMIT};
 ghost use Rattle.base_scope.specs.Refusals.{foundBelow};
+ghost use Rattle.base_scope.specs.Text.{text};
 ghost use Rattle.elf_readers.specs.Readers.{sectionCount};
 ghost use Rattle.elf_readers.specs.Bounds.{Headed};
 ghost use Rattle.elf_symbols.specs.Symbols.{symbolCount, Entries};
@@ -129,26 +130,14 @@ pub fn mark_used(order: ByteOrder, assembled: &[u8], view: View, used: &mut [u8]
     mark_tables(order, assembled, view, &mut used[0..n]);
 }
 
-// Whether the name at `at` begins with a prefix. It is read no further than its first byte that differs, so a long name costs nothing.
-fn name_begins(t: &[u8], at: usize, p: &[u8]) -> bool
-    ensures { λ r. ⌜ r ≡ prefixed (now (p .entry)) (nameAt (now (t .entry)) at) ⌝ }
+// Whether the name at `at` begins `_asmpp_`. That has no zero byte, so the table is compared with it as it stands: a long name costs nothing.
+fn begins_helper(t: &[u8], at: usize) -> bool
+    ensures { λ r. ⌜ r ≡ prefixed (text "_asmpp_") (nameAt (now (t .entry)) at) ⌝ }
 {
-    let mut i: usize = 0;
-    let mut next = at;
-    while i < p.len() {
-        if next >= t.len() {
-            return false;
-        }
-        if t[next] == 0 {
-            return false;
-        }
-        if t[next] != p[i] {
-            return false;
-        }
-        i += 1;
-        next += 1;
+    if at > t.len() {
+        return false;
     }
-    true
+    base_names::has_prefix(&t[at..], b"_asmpp_")
 }
 
 // Whether the name of symbol k begins `_asmpp_`.
@@ -157,7 +146,7 @@ pub fn is_helper(order: ByteOrder, file: &[u8], at: usize, strings: &[u8], k: us
     ensures { λ r. ⌜ r ≡ isHelper order (now (file .entry)) k ⌝ }
 {
     let entry = elf_symbols::symbol_at(order, file, at, k);
-    name_begins(strings, entry.st_name as usize, b"_asmpp_")
+    begins_helper(strings, entry.st_name as usize)
 }
 
 // Whether C's symbol k is taken.
@@ -298,6 +287,16 @@ fn is_unmoved_value(runs: bool, late: &[u8], blocks: usize, x: u32) -> bool
     !is_moved(runs, late, blocks, x)
 }
 
+// Whether section s is .late_rodata. Few are, so its index is asked before the codes.
+fn is_late(view: View, s: usize) -> bool
+    ensures { λ r. ⌜ r ≡ eqb (codeIn view s) LATE-RODATA ⌝ }
+{
+    if view.section(base_scope::LATE_RODATA) != s {
+        return false;
+    }
+    code_of(view, s) == base_scope::LATE_RODATA
+}
+
 // Whether symbol k is at fault by 16: taken, of .late_rodata, and its value 0 or not moved.
 fn is_unmoved(
     order: ByteOrder,
@@ -316,11 +315,11 @@ fn is_unmoved(
     let symbols = view.symbols;
     let at = symbols.at;
     let entry = elf_symbols::symbol_at(order, assembled, at, k);
-    if code_of(view, entry.st_shndx as usize) != base_scope::LATE_RODATA {
+    if is_late(view, entry.st_shndx as usize) {
+        if is_taken_a(order, assembled, view, strings, used, k) {
+            return is_unmoved_value(runs, late, blocks, entry.st_value);
+        }
         return false;
-    }
-    if is_taken_a(order, assembled, view, strings, used, k) {
-        return is_unmoved_value(runs, late, blocks, entry.st_value);
     }
     false
 }

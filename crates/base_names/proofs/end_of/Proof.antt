@@ -1,51 +1,18 @@
--- `base_names::end_of` meets its contract: the name at the place that `near_end` answers ends where the name at `at` does, and a byte passed over is not zero, so
--- the name at i does too; the loop stops at that end. Assumes nothing.
+-- `base_names::end_of` meets its contract: a name ends at the first zero byte. Assumes nothing.
 use borrow.Author.Needs.{needs}
-use native.Mathlib.Omega.{arith}
-use Prim.Native.Nat.{_-_}
-use mathlib.Core.Path.{_≡_, sym, _∙_}
-use lib.ListN.{length}
+use mathlib.Core.Path.{_∙_}
 use denote.Ref.{now}
-use Rattle.base_lists.specs.Strings.{nameEnd}
-use Rattle.base_lists.proofs.Strings.{end-here, end-next, end-past}
+use Rattle.base_names.proofs.Words.{first-zero}
 use Rattle.base_names.proofs.end_of.Statement.{statement}
 use Rattle.base_names.proofs.end_of.Tie as tie
 
-abbrev Inv-loop : tie.InvT-loop
-Inv-loop t at i₀ i = nameEnd t at ≡ nameEnd t i
+first-byte-requires : tie.Need-first-byte-requires
+first-byte-requires c κs = search needs
 
-abbrev μ-loop : tie.MeasureT-loop
-μ-loop t at i₀ i = length t - i
-
-near-end-requires : tie.Need-near-end-requires Inv-loop μ-loop
-near-end-requires c κs = search needs
-
-loop-holds : tie.Need-loop-holds Inv-loop μ-loop
-loop-holds c = c .near-end .ensures
-
-shared-slice-read-if1 : tie.Need-shared-slice-read-if1 Inv-loop μ-loop
-shared-slice-read-if1 c = search needs
-
-returns : tie.Need-returns Inv-loop μ-loop
+returns : tie.Need-returns
 returns c =
-    let l = c .before .before .before .loop in
-    sym (l .inv ∙ end-here (now (c .before .before .before .before .before .before .args .t)) (l .i) (omega arith) (c .if1 .taken))
-
-add-i : tie.Need-add-i Inv-loop μ-loop
-add-i c = search needs
-
-loop-less : tie.Need-loop-less Inv-loop μ-loop
-loop-less c = search needs
-
-loop-again : tie.Need-loop-again Inv-loop μ-loop
-loop-again c =
-    let l = c .before .before .before .loop in
-    l .inv ∙ end-next (now (c .before .before .before .before .before .before .args .t)) (l .i) (omega arith) (c .if1 .left)
-
-returns-2 : tie.Need-returns-2 Inv-loop μ-loop
-returns-2 c =
-    let l = c .before .loop in
-    sym (l .inv ∙ end-past (now (c .before .before .before .before .args .t)) (l .i) (omega arith))
+    let a = c .before .before .args in
+    c .first-byte .ensures ∙ first-zero (now (a .t)) (a .at)
 
 pub end-of-spec : {M : Type 1} → statement M
-end-of-spec = tie.close (tie.spec Inv-loop μ-loop near-end-requires loop-holds shared-slice-read-if1 returns add-i loop-less loop-again returns-2)
+end-of-spec = tie.close (tie.spec first-byte-requires returns)

@@ -1,11 +1,6 @@
 -- `blocks_values::label_in` meets its contract: the label is the part up to the first space. Assumes nothing.
-use Rattle.blocks_values.specs.Values.{labelIn}
-use Rattle.blocks_values.proofs.Values.{space-high}
-use native.Mathlib.Nat.{sub-zero}
+use Rattle.blocks_values.proofs.Values.{space-high, label-up-to}
 use native.Mathlib.Omega.{arith}
-use Prim.Native.Nat.{ℕ}
-use mathlib.Core.Path.{ap, _∙_}
-use lib.ListN.{take}
 use denote.Ref.{now}
 use borrow.Author.Needs.{needs}
 use Rattle.blocks_values.proofs.label_in.Statement.{statement}
@@ -24,10 +19,9 @@ part-result-end : tie.Need-part-result-end
 part-result-end c = omega (arith, space-high (now (c .before .before .args .v)))
 
 returns : tie.Need-returns
-unfolding labelIn
 returns c =
-    let v = now (c .before .before .before .args .v) in
-    ap (λ (n : ℕ). take n v) (sub-zero (c .before .space-in .result) ∙ c .before .space-in .ensures)
+    let s = c .before .space-in in
+    label-up-to (now (c .before .before .before .args .v)) (s .result) (s .ensures)
 
 pub label-in-spec : {M : Type 1} → statement M
 label-in-spec =

@@ -41,30 +41,33 @@ loop-holds c =
       c .gap-before .ensures,
     )
 
-gap-for-requires : tie.Need-gap-for-requires Inv-loop μ-loop
-gap-for-requires c κs =
+entry-at-requires : tie.Need-entry-at-requires Inv-loop μ-loop
+entry-at-requires c κs =
     let table-at = c .before .before .before .before .before .table-at in
     let relocation-count = c .before .before .before .before .relocation-count in
     let loop-test = c .loop-test in
-    let l = c .before .loop in
     let b = c .before .before .before .before .before .before .before .before .before .before .before in
     let a = b .args in (
       b .pre .0 .goals .viewed .named .headed,
       table-in (a .side .order) (now (a .file)) (a .t) _ (table-at .ensures) (b .pre .1) (b .pre .2),
       table-entry (a .side .order) (now (a .file)) (a .t) _ (table-at .ensures) _ _ (relocation-count .ensures) (loop-test .taken),
-      b .pre .0 .goals .spans,
-      l .inv .2,
     )
+
+cast-gap-for : tie.Need-cast-gap-for Inv-loop μ-loop
+cast-gap-for c = search needs
+
+gap-for-requires : tie.Need-gap-for-requires Inv-loop μ-loop
+gap-for-requires c κs = (c .before .before .before .before .before .before .before .before .before .before .before .before .before .pre .0 .goals .spans, c .before .before .before .loop .inv .2)
 
 write-entry-requires : tie.Need-write-entry-requires Inv-loop μ-loop
 write-entry-requires c κs =
-    let loop-test = c .before .before .loop-test in
-    let relocation-count = c .before .before .before .before .before .before .relocation-count in
-    let table-at = c .before .before .before .before .before .before .before .table-at in
+    let loop-test = c .before .before .before .before .loop-test in
+    let relocation-count = c .before .before .before .before .before .before .before .before .relocation-count in
+    let table-at = c .before .before .before .before .before .before .before .before .before .table-at in
     let gap-for = c .before .gap-for in
-    let b = c .before .before .before .before .before .before .before .before .before .before .before .before .before in
+    let b = c .before .before .before .before .before .before .before .before .before .before .before .before .before .before .before in
     let a = b .args in
-    let l = c .before .before .before .loop in
+    let l = c .before .before .before .before .before .loop in
     let h : l .k < relocationCount (a .side .order) (now (a .file)) (a .t) = omega (arith, loop-test .taken, relocation-count .ensures) in (
       b .pre .0,
       table-in (a .side .order) (now (a .file)) (a .t) _ (table-at .ensures) (b .pre .1) (b .pre .2),
@@ -72,6 +75,7 @@ write-entry-requires c κs =
       put-room (a .side .order) (now (a .file)) (carryingIn (now (a .file)) (a .side) (now (a .rows)) (now (a .late)) (now (a .numbers))) (a .t) (now (a .out)) (a .at) (l .k)
           (l .next) (l .out) (l .inv .1) h (b .pre .3) _ (table-index (a .side .order) (now (a .file)) (a .t) _ (table-at .ensures)),
       gap-for .ensures,
+      c .before .before .before .entry-at .ensures,
     )
 
 add-k : tie.Need-add-k Inv-loop μ-loop
@@ -82,14 +86,14 @@ loop-less c = search needs
 
 loop-again : tie.Need-loop-again Inv-loop μ-loop
 loop-again c =
-    let loop-test = c .before .before .before .before .before .loop-test in
-    let relocation-count = c .before .before .before .before .before .before .before .before .before .relocation-count in
+    let loop-test = c .before .before .before .before .before .before .before .loop-test in
+    let relocation-count = c .before .before .before .before .before .before .before .before .before .before .before .relocation-count in
     let write-entry = c .before .before .write-entry in
-    let table-at = c .before .before .before .before .before .before .before .before .before .before .table-at in
+    let table-at = c .before .before .before .before .before .before .before .before .before .before .before .before .table-at in
     let gap-for = c .before .before .before .before .gap-for in
-    let b = c .before .before .before .before .before .before .before .before .before .before .before .before .before .before .before .before in
+    let b = c .before .before .before .before .before .before .before .before .before .before .before .before .before .before .before .before .before .before in
     let a = b .args in
-    let l = c .before .before .before .before .before .before .loop in
+    let l = c .before .before .before .before .before .before .before .before .loop in
     let h : l .k < relocationCount (a .side .order) (now (a .file)) (a .t) = omega (arith, loop-test .taken, relocation-count .ensures) in (
       omega (arith, loop-test .taken),
       put-next (a .side .order) (now (a .file)) (carryingIn (now (a .file)) (a .side) (now (a .rows)) (now (a .late)) (now (a .numbers))) (a .t) (now (a .out)) (a .at) (l .k)
@@ -123,6 +127,8 @@ write-entries-spec =
     is-sought-requires
     gap-before-requires
     loop-holds
+    entry-at-requires
+    cast-gap-for
     gap-for-requires
     write-entry-requires
     add-k

@@ -1,4 +1,4 @@
--- The index is the first table of its buffer. Assumes nothing.
+-- The index is the last table of its buffer. Assumes nothing.
 use denote.Ref.{now}
 use Rattle.elf_check.proofs.Views.{view-table}
 use Rattle.merge_call.proofs.Stages.{names-room, names-put}

@@ -8,7 +8,7 @@ use Rattle.symbols_chain.proofs.hold_symbols.Tie as tie
 index-list-requires : tie.Need-index-list-requires
 index-list-requires c κs =
     let q = c .before .before .before .before .before .before .before .before .pre in
-    (q .0 .read, list-held _ _ _ _ _ _ _ _ (q .0), ready-few _ _ _ _ _ _ _ _ (q .0), q .1)
+    (q .0 .read, list-held _ _ _ _ _ _ _ _ (q .0), ready-few _ _ _ _ _ _ _ _ (q .0), q .1, q .3)
 
 hold-names-requires : tie.Need-hold-names-requires
 hold-names-requires c κs = search needs

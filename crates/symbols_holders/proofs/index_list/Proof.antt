@@ -14,7 +14,8 @@ same-length : tie.Need-same-length
 same-length c = search needs
 
 returns : tie.Need-returns
-returns c = list-indexed _ _ _ _ _ (c .before .before .before .before .before .before .put-hashes .ensures) (c .before .before .build .ensures)
+returns c =
+    list-indexed _ _ _ _ _ (c .before .before .before .before .before .before .put-hashes .ensures) (c .before .before .build .ensures)
 
 pub index-list-spec : {M : Type 1} → statement M
 index-list-spec = tie.close (tie.spec put-hashes-requires build-requires same-length returns)

@@ -3,28 +3,29 @@ use Prim.Native.Nat.{_-_, _≤_}
 use mathlib.Core.Path.{_≡_, refl, _∙_}
 use native.Mathlib.Omega.{arith}
 use lib.ListN.{length}
+use denote.Ref.{now}
 use borrow.Author.Needs.{needs}
-use Rattle.symbols_holders.specs.Ready.{idName, Hashed}
-use Rattle.symbols_holders.proofs.Tables.{hashed-none, hashed-next}
+use Rattle.symbols_holders.specs.Ready.{idName, KnownHashes, Hashed}
+use Rattle.symbols_holders.proofs.Tables.{known-kept, hashed-none, hashed-next}
 use Rattle.symbols_holders.proofs.put_hashes.Statement.{statement}
 use Rattle.symbols_holders.proofs.put_hashes.Tie as tie
 
 abbrev Inv-loop : tie.InvT-loop
-Inv-loop order compiled assembled statics sources list m index₀ k₀ index k =
-    (k ≤ m) × (length index ≡ length index₀) × Hashed (idName order compiled assembled statics sources) list index k
+Inv-loop order compiled assembled statics sources list known m index₀ k₀ index k = (k ≤ m) × (length index ≡ length index₀) × Hashed (idName order compiled assembled statics sources) list index k × KnownHashes order assembled known index
 
 abbrev μ-loop : tie.MeasureT-loop
-μ-loop order compiled assembled statics sources list m index₀ k₀ index k = m - k
+μ-loop order compiled assembled statics sources list known m index₀ k₀ index k = m - k
 
 loop-holds : tie.Need-loop-holds Inv-loop μ-loop
-loop-holds c = (omega arith, refl, hashed-none _ _ _)
+loop-holds c =
+    (omega arith, refl, hashed-none _ _ _, c .before .before .before .before .before .pre .4)
 
 put-hash-requires : tie.Need-put-hash-requires Inv-loop μ-loop
 put-hash-requires c κs =
     let l = c .before .before .loop in
     let b = c .before .before .before .before .before .before .before .before .pre in
     let h = b .1 (l .k) (c .before .loop-test .taken) in
-    (b .0, record { item = omega (arith, b .2, b .3 .long, l .inv .1); word = h .0; id = h .1 })
+    (b .0, record { item = omega (arith, b .2, b .3 .long, l .inv .1); word = h .0; id = h .1 }, l .inv .3)
 
 add-k : tie.Need-add-k Inv-loop μ-loop
 add-k c = search needs
@@ -35,11 +36,14 @@ loop-less c = search needs
 loop-again : tie.Need-loop-again Inv-loop μ-loop
 loop-again c =
     let l = c .before .before .before .before .before .loop in
-    let q = c .before .before .before .before .before .before .before .before .before .before .before .pre in
+    let b = c .before .before .before .before .before .before .before .before .before .before .before in
+    let a = b .args in
+    let q = b .pre in
     let w = c .before .before .put-hash in (
       omega arith,
-      w .kept .1 .1 .1 .1 .1 .1 .1 .0 ∙ l .inv .1,
+      w .kept .1 .1 .1 .1 .1 .1 .1 .1 .0 ∙ l .inv .1,
       hashed-next _ _ (l .index) _ (l .k) (omega (arith, q .2, q .3 .long, l .inv .1)) (w .ensures) (l .inv .2),
+      known-kept (a .order) (now (a .assembled)) (l .index) _ (a .known) (l .k) _ (omega (arith, q .2, c .before .before .before .before .loop-test .taken)) (w .ensures) (l .inv .3),
     )
 
 same-length : tie.Need-same-length Inv-loop μ-loop

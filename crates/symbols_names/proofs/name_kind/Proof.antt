@@ -1,51 +1,62 @@
--- A name with a count has a colon; another is its stored name, which its start tells. Assumes nothing.
-use Rattle.symbols_names.proofs.Names.{rows-held, kind-count, kind-plain}
-use Rattle.base_scope.specs.Text.{text}
+-- The counts say whose the id is, and with it the name. Assumes nothing.
+use Rattle.symbols_names.specs.Names.{kindOf}
+use Rattle.symbols_names.proofs.Names.{rows-held, own-count, other-count, name-own, name-other, name-static}
+use native.Mathlib.Omega.{arith}
+use mathlib.Core.Path.{ap, _∙_}
 use borrow.Author.Needs.{needs}
 use Rattle.symbols_names.proofs.name_kind.Statement.{statement}
 use Rattle.symbols_names.proofs.name_kind.Tie as tie
 
-name-count-requires : tie.Need-name-count-requires
-name-count-requires c κs =
-    let q = c .before .before .before .pre in
-    (rows-held _ _ _ _ _ (q .0), q .1)
+symbol-kind-requires : tie.Need-symbol-kind-requires
+symbol-kind-requires c κs =
+    let q = c .before .before .before .before .before .before .pre in
+    (q .0 .compiled, omega (arith, c .if1 .taken, own-count _ _ _ _ _ (q .0)))
 
 returns : tie.Need-returns
 returns c =
-    let q = c .before .before .before .before .before .pre in
-    kind-count _ _ _ _ _ (q .0) _ (q .1) _ (c .before .name-count .ensures) (c .if1 .taken)
+    let b = c .before .before .before .before .before .before .before in
+    c .symbol-kind .ensures ∙ ap kindOf (name-own _ _ _ _ _ (b .pre .0) (b .args .id) (c .before .if1 .taken))
 
-stored-rest-requires : tie.Need-stored-rest-requires
-stored-rest-requires c κs = search needs
+first-static-requires : tie.Need-first-static-requires
+first-static-requires c κs =
+    rows-held _ _ _ _ _ (c .before .before .before .before .before .before .pre .0) .symbols
 
-slice-aggregate-name-is : tie.Need-slice-aggregate-name-is
-slice-aggregate-name-is c = search needs
-
-name-is-requires : tie.Need-name-is-requires
-name-is-requires c κs = search needs
-
-slice-aggregate-name-is-2 : tie.Need-slice-aggregate-name-is-2
-slice-aggregate-name-is-2 c = search needs
-
-name-is-requires-2 : tie.Need-name-is-requires-2
-name-is-requires-2 c κs = search needs
+symbol-kind-requires-2 : tie.Need-symbol-kind-requires-2
+symbol-kind-requires-2 c κs =
+    let q = c .before .before .before .before .before .before .before .before .pre in
+    (q .0 .assembled, omega (arith, c .if2 .taken, c .before .before .if1 .left, c .before .first-static .ensures, other-count _ _ _ _ _ (q .0)))
 
 returns-2 : tie.Need-returns-2
-unfolding text
 returns-2 c =
-    let q = c .before .before .before .before .before .before .before .before .before .before .pre in
-    kind-plain _ _ _ _ _ (q .0) _ (q .1) _ _ _ _ (c .before .before .before .before .stored-rest .ensures) (c .before .before .before .before .before .before .name-count .ensures)
-    (c .before .before .before .before .before .if1 .left) (c .before .before .name-is .ensures) (c .name-is2 .ensures)
+    let b = c .before .before .before .before .before .before .before .before .before in
+    c .symbol-kind2 .ensures ∙ ap kindOf (name-other _ _ _ _ _ (b .pre .0) (b .args .id) (c .before .before .before .if1 .left) (omega (arith, c .before .if2 .taken, c .before .before .first-static .ensures)))
+
+read-requires : tie.Need-read-requires
+read-requires c κs =
+    let b = c .before .before .before .before .before .before .before .before in
+    let h = rows-held _ _ _ _ _ (b .pre .0) in
+    let f = c .before .first-static .ensures in
+    (omega (arith, b .pre .1, f, c .if2 .left, h .long), omega (arith, b .pre .1, f, c .if2 .left, h .few))
+
+static-kind-requires : tie.Need-static-kind-requires
+static-kind-requires c κs = search needs
+
+returns-3 : tie.Need-returns-3
+returns-3 c =
+    let b = c .before .before .before .before .before .before .before .before .before .before in
+    let f = c .before .before .before .first-static .ensures in
+    c .static-kind .ensures
+    ∙ rw (c .before .read .ensures, f) (ap kindOf (name-static _ _ _ _ _ (b .pre .0) (b .args .id) (omega (arith, f, c .before .before .if2 .left)) (b .pre .1)))
 
 pub name-kind-spec : {M : Type 1} → statement M
 name-kind-spec =
     tie.close
     (tie.spec
-    name-count-requires
+    symbol-kind-requires
     returns
-    stored-rest-requires
-    slice-aggregate-name-is
-    name-is-requires
-    slice-aggregate-name-is-2
-    name-is-requires-2
-    returns-2)
+    first-static-requires
+    symbol-kind-requires-2
+    returns-2
+    read-requires
+    static-kind-requires
+    returns-3)

@@ -38,7 +38,7 @@ hold-symbols-requires c κs =
     let bound = c .before .before .before .bound in
     let bound2 = c .before .before .bound2 in
     let pre = c .before .before .before .before .before .before .before .before .before .before .before .before .before .before .pre in
-    hold-ready (now (args .compiled)) (now (args .assembled)) (args .filling) (args .m) (now (args .table)) (now (args .steps)) (now (args .places)) (now (args .index)) _ _ _ _ _ (part .ensures) (part2 .ensures) (part3 .ensures) (bound .ensures) (bound2 .ensures) (pre .0) (pre .1)
+    hold-ready (now (args .compiled)) (now (args .assembled)) (args .filling) (args .m) (now (args .table)) (now (args .steps)) (now (args .places)) (now (args .index)) _ _ _ _ _ (part .ensures) (part2 .ensures) (part3 .ensures) (bound .ensures) (bound2 .ensures) (pre .0) (pre .1) (pre .2)
 
 same-length : tie.Need-same-length
 same-length c = search needs
@@ -56,7 +56,7 @@ returns c =
     let bound2 = c .before .before .before .before .before .before .before .bound2 in
     let pre = c .before .before .before .before .before .before .before .before .before .before .before .before .before .before .before .before .before .before .before .pre in
     let hold-symbols = c .before .before .before .before .hold-symbols in
-    held-of (now (args .compiled)) (now (args .assembled)) (args .filling) (args .m) (now (args .table)) (now (args .steps)) (now (args .places)) (now (args .index)) _ _ _ _ _ (part .ensures) (part2 .ensures) (part3 .ensures) (bound .ensures) (bound2 .ensures) (pre .0) (pre .1) _ (hold-symbols .kept .1 .1 .1 .1 .1 .1 .1 .1 .1 .0) (hold-symbols .ensures)
+    held-of (now (args .compiled)) (now (args .assembled)) (args .filling) (args .m) (now (args .table)) (now (args .steps)) (now (args .places)) (now (args .index)) _ _ _ _ _ (part .ensures) (part2 .ensures) (part3 .ensures) (bound .ensures) (bound2 .ensures) (pre .0) (pre .1) _ (hold-symbols .kept .1 .1 .1 .1 .1 .1 .1 .1 .1 .1 .0) (hold-symbols .ensures)
 
 pub hold-symbols-spec : {M : Type 1} → statement M
 hold-symbols-spec =

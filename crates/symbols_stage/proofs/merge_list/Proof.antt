@@ -15,7 +15,8 @@ hold-symbols-requires c κs =
     let args = c .before .before .before .before .before .before .before .before .before .before .before .before .before .before .before .before .before .args in
     let list-symbols = c .before .before .before .before .before .before .before .before .list-symbols in
     let pre = c .before .before .before .before .before .before .before .before .before .before .before .before .before .before .before .before .before .pre in
-    list-hold (now (args .compiled)) (now (args .assembled)) (args .filling) _ (now (args .table)) _ (now (args .steps)) _ (list-symbols .ensures) (now (args .places)) (now (args .index)) (pre .1)
+    let h = list-hold (now (args .compiled)) (now (args .assembled)) (args .filling) _ (now (args .table)) _ (now (args .steps)) _ (list-symbols .ensures) (now (args .places)) (now (args .index)) (pre .1) in
+    (h .0, h .1, pre .2)
 
 part-requires : tie.Need-part-requires
 part-requires c κs = search needs

@@ -31,7 +31,7 @@ merge-list-requires c κs =
     let read-statics = c .before .before .before .before .before .before .before .before .before .before .before .before .before .before .before .before .before .read-statics in
     let read-glabels = c .before .before .before .before .before .before .before .before .read-glabels in
     let filling-of = c .before .before .before .before .filling-of in
-    statics-list (now (args .compiled)) (now (args .assembled)) (now (args .file)) (args .stage) (args .manner) (now (args .table)) (now (args .places)) (now (args .steps)) (now (args .index)) (pre .0) _ _ (read-statics .ensures) (pre .5) (pre .1) (pre .2) (pre .3) _ (read-glabels .ensures) _ (filling-of .ensures) _ refl
+    statics-list (now (args .compiled)) (now (args .assembled)) (now (args .file)) (args .stage) (args .manner) (now (args .table)) (now (args .places)) (now (args .steps)) (now (args .index)) (pre .0) _ _ (read-statics .ensures) (pre .5) (pre .1) (pre .2) (pre .3) _ (read-glabels .ensures) _ (filling-of .ensures) _ refl (pre .6)
 
 enum-known-fault : tie.Need-enum-known-fault
 enum-known-fault c = search needs
