@@ -1,14 +1,14 @@
 -- A buffer with its front zeroed, turn by turn, and what zeroing leaves. Assumes nothing.
 use mathlib.Core.Path.{_≡_, sym, ap, _∙_}
 use mathlib.Core.List.{List, [], _∷_, _++_, append-nil}
-use Prim.Native.Nat.{ℕ, zero, suc, _+_, _-_, _≤_, _<_}
+use Prim.Native.Nat.{ℕ, zero, suc, _+_, _-_, _/_, _≤_, _<_}
 use native.Mathlib.Omega.{arith}
 use native.Mathlib.Nat.{zero-add, suc-add}
 use lib.ListN.{length, getD, take, drop, set, replicate, length-replicate, getD-replicate, length-drop}
 use lib.Seq.{drop-length, drop-drop, length-take-le, take-at, getD-take, getD-drop, ext-getD}
 use borrow.Author.Fill.{fill-more}
 use Rattle.base_lists.specs.Windows.{spliced}
-use Rattle.base_lists.proofs.Ranges.{by-last}
+use Rattle.base_lists.proofs.Ranges.{by-lt, by-last}
 use Rattle.base_lists.proofs.Windows.{length-part, within-take, spliced-nil, spliced-same, spliced-then, spliced-whole}
 use Rattle.base_buffers.specs.Buffers.{zeros, zeroedFrom}
 
@@ -53,6 +53,18 @@ zeros-add (suc i) n = ap (λ (l : List ℕ). 0 ∷ l) (zeros-add i n) ∙ ap (λ
 -- one more byte that a higher top is not below
 pub top-next : (l : List ℕ) (a i top r : ℕ) → ((j : ℕ) → j < i → getD l (a + j) 0 ≤ top) → top ≤ r → getD l (a + i) 0 ≤ r → (j : ℕ) → j < i + 1 → getD l (a + j) 0 ≤ r
 top-next l a i top r low up here j h = by-last j i (omega arith) (λ u. omega (arith, low j u, up)) (λ e. rw e here)
+
+-- a byte that no byte of either half passes, nor the last
+pub halves-top : (l : List ℕ) (a n half front back last r : ℕ) → half ≡ n / 2 → ((j : ℕ) → j < half → getD l (a + j) 0 ≤ front) → ((j : ℕ) → j < half → getD l (a + half + j) 0 ≤ back)
+    → ((j : ℕ) → j < n → n ≤ j + 1 → getD l (a + j) 0 ≤ last) → front ≤ r → back ≤ r → last ≤ r → (j : ℕ) → j < n → getD l (a + j) 0 ≤ r
+halves-top l a n half front back last r e p q w f b k j h = by-lt j half
+    (λ u. omega (arith, p j u, f))
+    (λ u. by-lt j (half + half)
+    (λ v.
+    let g : a + half + (j - half) ≡ a + j = omega arith in
+    let t : getD l (a + j) 0 ≤ back = rw g at (q (j - half) (omega arith)) in
+    omega (arith, t, b))
+    (λ v. omega (arith, w j h (omega (arith, e)), k)))
 
 -- bytes that 0 is not below are zero
 pub bytes-zero : (l : List ℕ) (a n r : ℕ) → a + n ≤ length l → r ≡ 0 → ((j : ℕ) → j < n → getD l (a + j) 0 ≤ r) → take n (drop a l) ≡ zeros n

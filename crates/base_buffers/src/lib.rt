@@ -1,5 +1,6 @@
 // Buffers that are lent to a call: they are zeroed, whole or from a place on, and hold tables one behind the other.
 ghost use mathlib.Core.Path.{_≡_};
+ghost use mathlib.Core.Bool.{false};
 ghost use Prim.Native.Nat.{ℕ, _+_, _≤_, _<_};
 ghost use lib.ListN.{length, getD};
 ghost use Rattle.base_lists.specs.Windows.{spliced};
@@ -8,6 +9,9 @@ ghost use Rattle.base_buffers.specs.Parts.{partAt};
 
 // How many bytes are looked at before they are zeroed.
 const STRETCH: usize = 4096;
+
+// And how many of them first.
+const FRONT: usize = 128;
 
 // The greater of two bytes.
 fn greater(a: u8, b: u8) -> u8
@@ -19,18 +23,32 @@ fn greater(a: u8, b: u8) -> u8
     a
 }
 
-// A byte that none of the n bytes at `at` passes; it is 0 where all of them are. All n are looked at, so that the compiler compares many at once.
+// The last of the n bytes at `at`; 0 where there is none.
+fn last_of(s: &[u8], at: usize, n: usize) -> u8
+    requires { ⌜ at + n ≤ length (now s) ⌝ }
+    ensures { λ r. ⌜ ((j : ℕ) → j < n → n ≤ j + 1 → getD (now (s .entry)) (at + j) 0 ≤ r) ⌝ }
+{
+    if 0 < n {
+        return s[at + n - 1];
+    }
+    0
+}
+
+// A byte that none of the n bytes at `at` passes; it is 0 where all of them are. All n are looked at, and both halves in one turn, so that the compiler compares many at once.
 fn greatest(s: &[u8], at: usize, n: usize) -> u8
     requires { ⌜ at + n ≤ length (now s) ⌝ }
     ensures { λ r. ⌜ ((j : ℕ) → j < n → getD (now (s .entry)) (at + j) 0 ≤ r) ⌝ }
 {
-    let mut top: u8 = 0;
+    let half = n / 2;
+    let mut front: u8 = 0;
+    let mut back: u8 = 0;
     let mut i: usize = 0;
-    while i < n {
-        top = greater(top, s[at + i]);
+    while i < half {
+        front = greater(front, s[at + i]);
+        back = greater(back, s[at + half + i]);
         i += 1;
     }
-    top
+    greater(greater(front, back), last_of(s, at, n))
 }
 
 // Writes zeros over a buffer.
@@ -44,12 +62,25 @@ fn clear(s: &mut [u8])
     }
 }
 
+// Whether some of the n bytes at `at` may have to be zeroed: the first few are looked at before all of them, since a part that is used mostly shows it there.
+fn is_used(s: &[u8], at: usize, n: usize) -> bool
+    requires { ⌜ at + n ≤ length (now s) ⌝ }
+    ensures { λ r. ⌜ (r ≡ false → (j : ℕ) → j < n → getD (now (s .entry)) (at + j) 0 ≤ 0) ⌝ }
+{
+    if FRONT < n {
+        if greatest(s, at, FRONT) > 0 {
+            return true;
+        }
+    }
+    greatest(s, at, n) > 0
+}
+
 // Zeroes the n bytes at `at`. Where they are zero nothing is written: most of a buffer is never used, and reading is quicker than writing.
 fn zero_part(s: &mut [u8], at: usize, n: usize)
     requires { ⌜ at + n ≤ length (now s) ⌝ }
     ensures { λ _. ⌜ now (s .exit) ≡ spliced (now (s .entry)) at (zeros n) ⌝ }
 {
-    if greatest(s, at, n) > 0 {
+    if is_used(s, at, n) {
         let end = at + n;
         clear(&mut s[at..end]);
     }

@@ -1,15 +1,17 @@
 -- The entries of a table together: how many are kept, their bytes as they are written one behind the other, and the lowest that is lost. Assumes nothing.
-use Prim.Native.Nat.{ℕ, zero, suc, _+_, _-_, _*_, _≤_, _<_, min}
+use Prim.Native.Nat.{ℕ, zero, suc, _+_, _-_, _*_, _/_, _≤_, _<_, min}
 use mathlib.Core.Path.{_≡_, refl, sym, ap, _∙_}
+use mathlib.Core.Logic.{_⊎_, ⊎-elim}
 use mathlib.Core.Bool.{Bool, true, false, cond}
 use mathlib.Core.List.{List, [], _++_, append-nil}
 use native.Mathlib.Nat.{min-eq-left, min-eq-right}
 use native.Mathlib.Omega.{arith}
 use lib.ListN.{length, length-append}
-use Rattle.base_lists.specs.Ranges.{least, count, gather}
-use Rattle.base_lists.specs.Windows.{spliced}
-use Rattle.base_lists.proofs.Ranges.{by-test, count-zero, count-next, count-all, count-same, gather-zero, gather-yes, gather-no, gather-append, gather-length, least-zero, least-next, least-high}
-use Rattle.base_lists.proofs.Windows.{spliced-nil, spliced-then}
+use borrow.Author.Tests.{eq-eqb, ne-eqb}
+use Rattle.base_lists.specs.Ranges.{least, gather, pickList}
+use Rattle.base_lists.specs.Written.{Written}
+use Rattle.base_lists.proofs.Ranges.{by-test, both, count-le, count-all, count-same, gather-zero, gather-yes, gather-no, gather-append, gather-length, least-zero, least-next, least-high}
+use Rattle.base_lists.proofs.Written.{written-none, written-then, written-as}
 use Rattle.base_fields.specs.declared.ByteOrder.{ByteOrder}
 use Rattle.base_fields.specs.Layouts.{widthOf}
 use Rattle.elf_records.specs.declared.relocation.RelocationEntry.{RelocationEntry}
@@ -18,16 +20,19 @@ use Rattle.elf_records.proofs.RoundTrip.{length-relocation}
 use Rattle.base_scope.specs.declared.Finding.{Finding}
 use Rattle.base_scope.specs.Refusals.{foundBelow}
 use Rattle.elf_readers.specs.Readers.{sectionCount, section}
+use Rattle.elf_readers.specs.Bounds.{Headed}
 use Rattle.elf_relocations.specs.Relocations.{isRela, isTable, entrySize, relocationCount, relocation}
+use Rattle.elf_relocations.proofs.Relocations.{table-type, size-cases}
 use Rattle.symbols_taken.specs.Used.{codeOf}
 use Rattle.carry_clash.specs.Clash.{isCarried}
 use Rattle.carry_entries.specs.declared.Goal.{Goal}
+use Rattle.carry_entries.specs.declared.Goal.the-variants.{To, LeftOut, Unmoved}
 use Rattle.carry_entries.specs.declared.Side.{Side}
 use Rattle.carry_entries.specs.declared.EntryTable.{EntryTable}
-use Rattle.carry_entries.specs.Entries.{isLeftOut, Carrying, OFFSETS, entryGoal, entrySymbol, isKept, carriedEntry}
+use Rattle.carry_entries.specs.Entries.{isLeftOut, goalPlace, Carrying, OFFSETS, entryGoal, entrySymbol, isKept, carriedEntry}
 use Rattle.carry_entries.specs.Entries.{keptCount, carriedBytes, isLost, lossIn, lossAt, lossFinding}
-use Rattle.carry_entries.specs.Code.{pickTables, goalIn, carryingIn, isKeptEntry, symbolIn, isLostEntry, carriedTo, isKeptIn, keptIn, keepsAll, broughtBytes, entryTableOf, TableRead, movesOf}
-use Rattle.carry_entries.proofs.Goals.{keeps-entry}
+use Rattle.carry_entries.specs.Code.{pickTables, movesOf, goalIn, carryingIn, isKeptEntry, symbolIn, isLostEntry, carriedTo, entryBytes, placedBytes, isStill, StandsAt, entryTableOf, TableRead}
+use Rattle.carry_entries.proofs.Goals.{width-rela, width-rel, still-goal}
 
 -- ---- how long an entry is
 
@@ -55,7 +60,11 @@ module _ (o : ByteOrder) (F : List ℕ) (w : Carrying) (t : ℕ) where
   unfoldable pub bytesBelow : ℕ → List ℕ
   bytesBelow k = gather (isKept o F w t) (λ j. relocationBytes o (carriedEntry o F w t j)) k
 
-  bytes-next : (k : ℕ) → bytesBelow (k + 1) ≡ bytesBelow k ++ broughtBytes o F w t k
+  -- what entry k brings
+  unfoldable pub broughtBytes : ℕ → List ℕ
+  broughtBytes k = pickList (isKept o F w t k) (relocationBytes o (carriedEntry o F w t k)) []
+
+  bytes-next : (k : ℕ) → bytesBelow (k + 1) ≡ bytesBelow k ++ broughtBytes k
   unfolding bytesBelow broughtBytes
   bytes-next k = by-test (isKept o F w t k)
       (λ y. gather-yes (isKept o F w t) (λ j. relocationBytes o (carriedEntry o F w t j)) k y ∙ rw y)
@@ -71,62 +80,51 @@ module _ (o : ByteOrder) (F : List ℕ) (w : Carrying) (t : ℕ) where
       let l = ap length q ∙ length-append (gather p f k) _ in
       omega (arith, l)
 
-  -- after k turns the bytes of the first k entries stand there
-  pub record EntriesPut (out₀ : List ℕ) (at k next : ℕ) (out : List ℕ) : Type 0 where
-    pub long : length out ≡ length out₀
-    pub ends : next ≡ at + length (bytesBelow k)
-    pub bytes : out ≡ spliced out₀ at (bytesBelow k)
+  -- the entries of a table lie in its object
+  in-size : (size n m : ℕ) → (size ≡ 8) ⊎ (size ≡ 12) → n ≤ m / size → size * n ≤ m
+  in-size size n m c l = ⊎-elim
+      (λ e. let g = rw e at l in rw e (omega (arith, g)))
+      (λ e. let g = rw e at l in rw e (omega (arith, g))) c
 
+  in-count : (size n m : ℕ) → (size ≡ 8) ⊎ (size ≡ 12) → n ≤ m / size → n ≤ m
+  in-count size n m c l = ⊎-elim
+      (λ e. let g = rw e at l in omega (arith, g))
+      (λ e. let g = rw e at l in omega (arith, g)) c
+
+  pub count-short : Headed o F → t < sectionCount o F → isTable o F t ≡ true → relocationCount o F t ≤ length F
+  unfolding relocationCount
+  count-short h l y =
+      let a = in-count (entrySize o F t) (section o F t .«sh_size» / entrySize o F t) (section o F t .«sh_size») (size-cases o F t) (omega arith) in
+      omega (arith, a, h .held t l (table-type o F t y))
+
+  pub carried-short : Headed o F → t < sectionCount o F → isTable o F t ≡ true → length (carriedBytes o F w t) ≤ length F
+  unfolding keptCount relocationCount
+  carried-short h l y =
+      let a = in-size (entrySize o F t) (keptCount o F w t) (section o F t .«sh_size») (size-cases o F t) (count-le (isKept o F w t) (relocationCount o F t)) in
+      omega (arith, a, carried-long, h .held t l (table-type o F t y))
+
+  pub put-short : Headed o F → t < sectionCount o F → isTable o F t ≡ true → (k : ℕ) → k ≤ relocationCount o F t → length (bytesBelow k) ≤ length F
+  unfolding carriedBytes bytesBelow
+  put-short h l y k e = omega (arith, carried-short h l y, bytes-fit k (relocationCount o F t) e)
+
+  -- after k turns the bytes of the first k entries are appended
   module _ (out₀ : List ℕ) (at : ℕ) where
-    none-below : bytesBelow 0 ≡ []
+    pub put-none : Written out₀ at (bytesBelow 0) at out₀
     unfolding bytesBelow
-    none-below = gather-zero _ _
+    put-none = written-as out₀ at [] _ at out₀ (sym (gather-zero _ _)) (written-none out₀ at)
 
-    pub put-none : EntriesPut out₀ at 0 at out₀
-    put-none = record {
-      long = refl;
-      ends = rw none-below (omega arith);
-      bytes = rw none-below (sym (spliced-nil out₀ at));
-    }
+    pub put-next : (k next : ℕ) (out : List ℕ) (r : ℕ) (m : List ℕ) → Written out₀ at (bytesBelow k) next out → Written out next (broughtBytes k) r m
+        → Written out₀ at (bytesBelow (k + 1)) r m
+    put-next k next out r m a b = written-as out₀ at _ _ r m (sym (bytes-next k)) (written-then out₀ at _ next out _ r m a b)
 
-    module _ (k next : ℕ) (out : List ℕ) (so-far : EntriesPut out₀ at k next out) where
-      module _ (h : k < relocationCount o F t) (room : at + length (carriedBytes o F w t) ≤ length out₀) where
-        next-long : length (bytesBelow (k + 1)) ≡ length (bytesBelow k) + length (broughtBytes o F w t k)
-        next-long = ap length (bytes-next k) ∙ length-append (bytesBelow k) (broughtBytes o F w t k)
+    pub put-end : (k next : ℕ) (out : List ℕ) → Written out₀ at (bytesBelow k) next out → k ≡ relocationCount o F t → Written out₀ at (carriedBytes o F w t) next out
+    unfolding carriedBytes bytesBelow
+    put-end k next out a e = written-as out₀ at _ _ next out (ap bytesBelow e) a
 
-        all-long : length (bytesBelow (k + 1)) ≤ length (carriedBytes o F w t)
-        unfolding carriedBytes bytesBelow
-        all-long = bytes-fit (k + 1) (relocationCount o F t) (omega arith)
-
-        room-here : next + length (broughtBytes o F w t k) ≤ length out
-        room-here = omega (arith, so-far .long, so-far .ends, next-long, all-long)
-
-        put-here : (r : ℕ) (m : List ℕ) → length m ≡ length out → m ≡ spliced out next (broughtBytes o F w t k) → r ≡ next + length (broughtBytes o F w t k)
-            → EntriesPut out₀ at (k + 1) r m
-        put-here r m l e f = record {
-          long = l ∙ so-far .long;
-          ends = omega (arith, f, so-far .ends, next-long);
-          bytes =
-              let q : next + length (broughtBytes o F w t k) ≤ length out₀ = omega (arith, room-here, so-far .long) in
-              e ∙ ap (λ (x : List ℕ). spliced x next (broughtBytes o F w t k)) (so-far .bytes)
-              ∙ spliced-then out₀ at (bytesBelow k) (broughtBytes o F w t k) next (so-far .ends) q
-              ∙ ap (spliced out₀ at) (sym (bytes-next k));
-        }
-
-        -- of a table in hand, whose index is t
-        pub put-room : (i : ℕ) → i ≡ t → next + length (broughtBytes o F w i k) ≤ length out
-        put-room i q = rw q room-here
-
-        pub put-next : (i : ℕ) → i ≡ t → (r : ℕ) (m : List ℕ) → length m ≡ length out
-            → (m ≡ spliced out next (broughtBytes o F w i k)) × (r ≡ next + length (broughtBytes o F w i k)) → EntriesPut out₀ at (k + 1) r m
-        put-next i q r m l e = put-here r m l (rw (← q) (e .0)) (rw (← q) (e .1))
-
-      pub put-end : k ≡ relocationCount o F t → (out ≡ spliced out₀ at (carriedBytes o F w t)) × (next ≡ at + length (carriedBytes o F w t))
-      unfolding carriedBytes bytesBelow
-      put-end e = (
-        so-far .bytes ∙ ap (λ (n : ℕ). spliced out₀ at (bytesBelow n)) e,
-        so-far .ends ∙ ap (λ (n : ℕ). at + length (bytesBelow n)) e,
-      )
+  -- where all entries are kept, what the table brings is as long as all of them
+  pub put-all : ((k : ℕ) → isKept o F w t k ≡ true) → length (carriedBytes o F w t) ≡ entrySize o F t * relocationCount o F t
+  unfolding keptCount
+  put-all y = carried-long ∙ ap (λ (n : ℕ). entrySize o F t * n) (count-same (isKept o F w t) (λ k. true) (relocationCount o F t) (λ k h. y k) ∙ count-all _)
 
   -- ---- the lowest of its offsets that is lost, of the first k entries, or `best`
 
@@ -156,14 +154,6 @@ module _ (o : ByteOrder) (F : List ℕ) (w : Carrying) (t : ℕ) where
 -- ---- over what is in hand
 
 module _ (F : List ℕ) (s : Side) (rows late N : List ℕ) where
-  pub kept-same : (t k : ℕ) → isKeptIn F s rows late t k ≡ isKept (s .order) F (carryingIn F s rows late N) t k
-  unfolding isKeptIn isKeptEntry isKept entryGoal carryingIn
-  kept-same t k = refl
-
-  pub kept-is : (t : ℕ) → keptIn F s rows late t ≡ keptCount (s .order) F (carryingIn F s rows late N) t
-  unfolding keptIn keptCount isKeptIn isKeptEntry isKept entryGoal carryingIn
-  kept-is t = refl
-
   module _ (table : EntryTable) (is : table ≡ entryTableOf (s .order) F (table .index)) (k : ℕ) where
     code-same : table .code ≡ codeOf (s .order) F (section (s .order) F (table .index) .«sh_info»)
     unfolding entryTableOf
@@ -174,45 +164,15 @@ module _ (F : List ℕ) (s : Side) (rows late N : List ℕ) where
     size-same = ap (λ (x : EntryTable). x .size) is
 
     module _ (e : RelocationEntry) (entry : e ≡ relocation (s .order) F (table .index) k) where
-      -- ---- written
+      -- ---- appended
 
-      module _ (g : Goal) (goal : g ≡ goalIn (movesOf s) rows late (table .code) (e .«r_offset»)) (b : Bool) (left : b ≡ isLeftOut g) where
-        goal-same : g ≡ entryGoal (s .order) F (carryingIn F s rows late N) (table .index) k
-        unfolding entryGoal carryingIn
-        goal-same = goal ∙ rw (code-same, entry)
+      pub brought-same : (t : ℕ) → table .index ≡ t → entryBytes s rows late N (table .code) e ≡ broughtBytes (s .order) F (carryingIn F s rows late N) t k
+      unfolding entryBytes isKeptEntry carriedTo symbolIn broughtBytes isKept carriedEntry entryGoal entrySymbol carryingIn
+      brought-same t q = rw (code-same, entry, q)
 
-        bytes-none : b ≡ true → broughtBytes (s .order) F (carryingIn F s rows late N) (table .index) k ≡ []
-        unfolding broughtBytes isKept
-        bytes-none y = rw (← goal-same, ← left, y)
-
-        pub entry-left : b ≡ true → (out : List ℕ) (at : ℕ)
-            → (out ≡ spliced out at (broughtBytes (s .order) F (carryingIn F s rows late N) (table .index) k))
-            × (at ≡ at + length (broughtBytes (s .order) F (carryingIn F s rows late N) (table .index) k))
-        entry-left y out at = rw (bytes-none y) (sym (spliced-nil out at), omega arith)
-
-        module _ (no : b ≡ false) (c : RelocationEntry) (carried : c ≡ carriedTo s N g e) where
-          carried-same : c ≡ carriedEntry (s .order) F (carryingIn F s rows late N) (table .index) k
-          unfolding carriedEntry carriedTo entrySymbol symbolIn carryingIn
-          carried-same = carried ∙ rw (goal-same, entry)
-
-          bytes-some : broughtBytes (s .order) F (carryingIn F s rows late N) (table .index) k ≡ relocationBytes (s .order) c
-          unfolding broughtBytes isKept
-          bytes-some = rw (← goal-same, ← left, no, carried-same)
-
-          pub entry-room : (m at : ℕ) → at + length (broughtBytes (s .order) F (carryingIn F s rows late N) (table .index) k) ≤ m
-              → at + widthOf (relocationLayout (hasAddend c)) ≤ m
-          entry-room m at h = omega (arith, h, ap length bytes-some, length-relocation (s .order) c)
-
-          entry-size : length (broughtBytes (s .order) F (carryingIn F s rows late N) (table .index) k) ≡ table .size
-          entry-size = ap length (bytes-some ∙ ap (relocationBytes (s .order)) carried-same) ∙ entry-long (s .order) F (carryingIn F s rows late N) (table .index) k ∙ sym size-same
-
-          pub entry-fits : (m at : ℕ) → at + length (broughtBytes (s .order) F (carryingIn F s rows late N) (table .index) k) ≤ m → at + table .size ≤ m
-          entry-fits m at h = omega (arith, h, entry-size)
-
-          pub entry-put : (at : ℕ) (out after : List ℕ) → after ≡ spliced out at (relocationBytes (s .order) c)
-              → (after ≡ spliced out at (broughtBytes (s .order) F (carryingIn F s rows late N) (table .index) k))
-              × (at + table .size ≡ at + length (broughtBytes (s .order) F (carryingIn F s rows late N) (table .index) k))
-          entry-put at out after q = (q ∙ ap (spliced out at) (sym bytes-some), ap (λ (x : ℕ). at + x) (sym entry-size))
+      pub size-read : table .size ≡ widthOf (relocationLayout (hasAddend e))
+      unfolding entrySize relocation relocationAt
+      size-read = size-same ∙ ap (λ (b : Bool). widthOf (relocationLayout b)) (sym (ap hasAddend entry ∙ has-addend (isRela (s .order) F (table .index)) _))
 
       -- ---- lost
 
@@ -249,28 +209,68 @@ module _ (o : ByteOrder) (F : List ℕ) (t : ℕ) (table : EntryTable) (is : tab
   pub table-entry : (k n : ℕ) → n ≡ relocationCount o F t → k < n → k < relocationCount o F (table .index)
   table-entry k n e h = rw (table-index, ← e) h
 
-module _ (F : List ℕ) (s : Side) (rows late : List ℕ) (t : ℕ) where
-  pub kept-none : 0 ≡ count (isKeptIn F s rows late t) 0
-  kept-none = sym (count-zero (isKeptIn F s rows late t))
-
-  -- where none can be left out
-  pub kept-all : (table : EntryTable) → table ≡ entryTableOf (s .order) F t → (b : Bool) → b ≡ keepsAll s (table .code) → b ≡ true
-      → (n : ℕ) → n ≡ relocationCount (s .order) F t → n ≡ keptIn F s rows late t
-  unfolding keptIn isKeptIn entryTableOf
-  kept-all table is b all y n e =
+-- a table whose entries all stay
+module _ (F : List ℕ) (s : Side) (rows late N : List ℕ) (t : ℕ) (table : EntryTable) (is : table ≡ entryTableOf (s .order) F t) (still : isStill s (table .code) ≡ true) where
+  kept-still : (k : ℕ) → isKept (s .order) F (carryingIn F s rows late N) t k ≡ true
+  unfolding isKept entryGoal carryingIn entryTableOf isLeftOut
+  kept-still k =
       let code : table .code ≡ codeOf (s .order) F (section (s .order) F t .«sh_info») = ap (λ (x : EntryTable). x .code) is in
-      let yes : keepsAll s (codeOf (s .order) F (section (s .order) F t .«sh_info»)) ≡ true = ap (keepsAll s) (sym code) ∙ sym all ∙ y in
-      e ∙ sym (count-all _)
-      ∙ count-same (λ i. true) (isKeptIn F s rows late t) (relocationCount (s .order) F t) (λ k h.
-      sym (keeps-entry s rows late (codeOf (s .order) F (section (s .order) F t .«sh_info»)) yes (relocation (s .order) F t k)))
+      let x : ℕ = relocation (s .order) F t k .«r_offset» in
+      rw (← code, ← still-goal s (table .code) rows late still x)
 
-  module _ (k kept : ℕ) (so-far : kept ≡ count (isKeptIn F s rows late t) k) where
-    pub kept-next : (i : ℕ) → i ≡ t → (b : Bool) → b ≡ isKeptIn F s rows late i k → (r : ℕ) → r ≡ cond b 1 0 → kept + r ≡ count (isKeptIn F s rows late t) (k + 1)
-    kept-next i e b q r f = rw (so-far, f, q, e) (sym (count-next (isKeptIn F s rows late t) k))
+  pub still-long : (n : ℕ) → n ≡ relocationCount (s .order) F t → length (carriedBytes (s .order) F (carryingIn F s rows late N) t) ≡ table .size * n
+  unfolding entryTableOf
+  still-long n e = put-all (s .order) F (carryingIn F s rows late N) t kept-still ∙ rw (is, e)
 
-    pub kept-end : k ≡ relocationCount (s .order) F t → kept ≡ keptIn F s rows late t
-    unfolding keptIn
-    kept-end e = so-far ∙ ap (count (isKeptIn F s rows late t)) e
+-- an entry in hand that goes to g, and stands at p
+pub brings-placed : (s : Side) (rows late N : List ℕ) (c : ℕ) (e : RelocationEntry) (p : ℕ) → StandsAt (goalIn (movesOf s) rows late c (e .«r_offset»)) p
+    → placedBytes s N p e ≡ entryBytes s rows late N c e
+unfolding placedBytes entryBytes isKeptEntry
+brings-placed s rows late N c e p w = by-test (isLeftOut (goalIn (movesOf s) rows late c (e .«r_offset»)))
+    (λ y. rw (w .left, y))
+    (λ n. rw (w .left, n, w .place n))
+
+-- one that stays
+pub stands-same : (g : Goal) (x : ℕ) → To x ≡ g → x < OFFSETS → StandsAt g x
+unfolding isLeftOut goalPlace
+stands-same g x e h = rw (← e) (record { left = ne-eqb x OFFSETS (λ q. absurd (omega (arith, h, q))); place = λ n. refl; below = omega (arith, h) })
+
+pub stands-left : (g : Goal) → g ≡ LeftOut → StandsAt g OFFSETS
+unfolding isLeftOut goalPlace
+stands-left g e = rw e (record { left = eq-eqb OFFSETS OFFSETS refl; place = λ n. both refl n; below = omega arith })
+
+pub stands-stuck : (g : Goal) → g ≡ Unmoved → StandsAt g 0
+unfolding isLeftOut goalPlace
+stands-stuck g e = rw e (record { left = ne-eqb 0 OFFSETS (λ q. absurd (omega (arith, q))); place = λ n. refl; below = omega arith })
+
+-- its bytes
+module _ (s : Side) (N : List ℕ) (p : ℕ) (e : RelocationEntry) where
+  pub placed-none : p ≡ OFFSETS → [] ≡ placedBytes s N p e
+  unfolding placedBytes
+  placed-none q = rw (eq-eqb p OFFSETS q)
+
+  pub placed-one : (p ≡ OFFSETS → ⊥) → relocationBytes (s .order) (carriedTo s N p e) ≡ placedBytes s N p e
+  unfolding placedBytes
+  placed-one n = rw (ne-eqb p OFFSETS n)
+
+-- it is as long as it was
+module _ (s : Side) (N : List ℕ) (x : ℕ) (e : RelocationEntry) where
+  carried-width : widthOf (relocationLayout (hasAddend (carriedTo s N x e))) ≡ widthOf (relocationLayout (hasAddend e))
+  unfolding carriedTo hasAddend
+  carried-width = refl
+
+  pub placed-long : length (relocationBytes (s .order) (carriedTo s N x e)) ≡ widthOf (relocationLayout (hasAddend e))
+  placed-long = length-relocation (s .order) (carriedTo s N x e) ∙ carried-width
+
+  pub width-same : (d : RelocationEntry) → d ≡ carriedTo s N x e → widthOf (relocationLayout (hasAddend d)) ≡ widthOf (relocationLayout (hasAddend e))
+  width-same d q = ap (λ (y : RelocationEntry). widthOf (relocationLayout (hasAddend y))) q ∙ carried-width
+
+  pub bytes-same : (d : RelocationEntry) → d ≡ carriedTo s N x e → relocationBytes (s .order) d ≡ relocationBytes (s .order) (carriedTo s N x e)
+  bytes-same d q = ap (relocationBytes (s .order)) q
+
+pub width-few : (b : Bool) → widthOf (relocationLayout b) ≤ 12
+width-few true = omega (arith, width-rela true refl)
+width-few false = omega (arith, width-rel false refl)
 
 module _ (o : ByteOrder) (F : List ℕ) (w : Carrying) where
   pub loss-step : (t best k low r i : ℕ) → i ≡ t → low ≡ lossBelow o F w t best k → r ≡ cond (isLost o F w i k) (min (relocation o F i k .«r_offset») low) low

@@ -1,7 +1,7 @@
 -- What each way through the code says of one entry: where it goes, what its symbol becomes, and whether it is lost. Assumes nothing.
 use Prim.Native.Nat.{ℕ, zero, suc, _+_, _-_, _*_, _%_, _^_, _≤_, _<_}
 use mathlib.Core.Path.{_≡_, refl, sym, ap, _∙_}
-use mathlib.Core.Logic.{inl, inr}
+use mathlib.Core.Logic.{_⊎_, inl, inr, ⊎-elim}
 use mathlib.Core.Bool.{Bool, true, false, not, cond, _&&_, _||_}
 use mathlib.Core.List.{List}
 use native.Mathlib.Omega.{arith}
@@ -18,7 +18,6 @@ use Rattle.base_scope.specs.Elf.{SHT_RELA}
 use Rattle.elf_records.specs.declared.relocation.RelocationEntry.{RelocationEntry}
 use Rattle.elf_records.specs.declared.section.SectionHeader.{SectionHeader}
 use Rattle.elf_records.specs.Relocation.{relocationLayout, relocationAt}
-use Rattle.elf_records.proofs.Offsets.{relocation-offset}
 use Rattle.elf_records.proofs.RoundTrip.{rela-width, rel-width}
 use Rattle.elf_readers.specs.Readers.{section}
 use Rattle.elf_readers.specs.Bounds.{Headed}
@@ -34,7 +33,7 @@ use Rattle.blocks_spans.proofs.Table.{length-in, span-in}
 use Rattle.late_lookups.specs.declared.LatePlace.{LatePlace}
 use Rattle.late_lookups.specs.declared.LatePlace.the-variants.{Moved, Unmoved as NotMoved}
 use Rattle.late_lookups.specs.Fields.{offsetAt, jumpAt}
-use Rattle.symbols_taken.specs.Used.{codeOf, isSourceTable}
+use Rattle.symbols_taken.specs.Used.{isSourceTable}
 use Rattle.symbols_taken.specs.Code.{codeIn}
 use Rattle.symbols_taken.proofs.Sections.{code-is, table-kind}
 use Rattle.symbols_rows.specs.Rows.{halfIn}
@@ -48,9 +47,9 @@ use Rattle.carry_entries.specs.declared.Side.{Side}
 use Rattle.carry_entries.specs.declared.Moves.{Moves}
 use Rattle.carry_entries.specs.declared.EntryTable.{EntryTable}
 use Rattle.carry_entries.specs.declared.Gap.{Gap}
-use Rattle.carry_entries.specs.Entries.{isLeftOut, isStuck, goalPlace, isInResult, newNumber}
+use Rattle.carry_entries.specs.Entries.{isLeftOut, isStuck, isInResult, newNumber}
 use Rattle.carry_entries.specs.Carried.{pickGoal}
-use Rattle.carry_entries.specs.Code.{lateGoal, pickTables, movesOf, isGoneIn, goalIn, isKeptEntry, symbolIn, isLostEntry, carriedTo, isKeptIn, keepsAll, entryTableOf, TableRead, IsGap, SymbolsRead}
+use Rattle.carry_entries.specs.Code.{lateGoal, pickTables, movesOf, isGoneIn, goalIn, isKeptEntry, symbolIn, isLostEntry, carriedTo, isStill, entryTableOf, TableRead, IsGap, Stays, SymbolsRead}
 
 -- ---- one test behind another
 
@@ -68,7 +67,7 @@ and-both t a b d r e y z f = rw (← e, y, z) f
 
 -- ---- gaps between the spans
 
-and-none : (a : Bool) → false ≡ (a && false)
+and-none : (a : Bool) → (a && false) ≡ false
 and-none true = refl
 and-none false = refl
 
@@ -79,9 +78,6 @@ pub not-there : (t : Bool) (a b : ℕ) → t ≡ false → b ≡ cond t a b
 not-there t a b n = rw n
 
 module _ (rows : List ℕ) (n : ℕ) where
-  pub gap-none : (g : Gap) → g .high ≡ 0 → IsGap rows n g
-  gap-none g e = record { clear = λ x l u. absurd (omega (arith, e)) }
-
   -- between the end of the row before row r and the place of row r nothing is covered
   module _ (w : Rows rows n) (r : ℕ) (few : r ≤ n) where
     end-before : (i : ℕ) → i < r → spanEnd (spanAt (spansIn rows n) i) ≤ cond (ltb 0 r) (spanEnd (spanIn rows (r - 1))) 0
@@ -118,18 +114,11 @@ module _ (rows : List ℕ) (n : ℕ) where
       let c : covers (spansIn rows n) x r ≡ true = covers-of (spansIn rows n) x r (rw e at l) (rw e at v) in
       ap (λ (y : Span). eqb ((x - y .place) % 4) 0) e ∙ sym (replaced-over (spansIn rows n) x (w .ascends) r q c)
 
-  module _ (g : Gap) (w : IsGap rows n g) (x : ℕ) (t : Bool) (e : t ≡ (leb (g .low) x && ltb x (g .high))) where
-    pub gap-clear : t ≡ true → (a : Bool) → false ≡ (a && replacedWord (spansIn rows n) x)
-    gap-clear y a =
-        let p = and-parts (leb (g .low) x) (ltb x (g .high)) (sym e ∙ y) in
-        rw (w .clear x (leb-true _ _ (p .0)) (ltb-true _ _ (p .1))) (and-none a)
-
 -- ---- where an entry goes
 
--- one that goes to a place is not left out
-pub to-kept : (x : ℕ) → false ≡ isLeftOut (To x)
-unfolding isLeftOut
-to-kept x = refl
+-- by what of an object says where its entries go
+pub goal-moves : (s : Side) (m : Moves) → m ≡ movesOf s → (rows late : List ℕ) (c x : ℕ) (g : Goal) → g ≡ goalIn m rows late c x → g ≡ goalIn (movesOf s) rows late c x
+goal-moves s m e rows late c x g q = q ∙ ap (λ (y : Moves). goalIn y rows late c x) e
 
 module _ (s : Moves) (rows late : List ℕ) (c x : ℕ) where
   module _ (t : Bool) (e : t ≡ (leavesOut c && replacedWord (spansIn rows (s .spans)) x)) where
@@ -150,17 +139,10 @@ module _ (s : Moves) (rows late : List ℕ) (c x : ℕ) where
     unfolding goalIn
     goal-stays n = rw (← e, n, yes)
 
-  -- C's, outside of late words: a gap holds it, or no word is replaced there
-  module _ (yes : s .compiled ≡ true) (d : Bool) (target : d ≡ isLateTarget c) (no : d ≡ false) where
-    goal-clear : false ≡ (leavesOut c && replacedWord (spansIn rows (s .spans)) x) → To x ≡ goalIn s rows late c x
-    unfolding goalIn isGoneIn
-    goal-clear f = rw (yes, ← f, ← target, no)
-
-    pub goal-gap : (g : Gap) → IsGap rows (s .spans) g → (t : Bool) → t ≡ (leb (g .low) x && ltb x (g .high)) → t ≡ true → To x ≡ goalIn s rows late c x
-    goal-gap g w t e y = goal-clear (gap-clear rows (s .spans) g w x t e y (leavesOut c))
-
-    pub goal-whole : (t : Bool) → t ≡ leavesOut c → t ≡ false → To x ≡ goalIn s rows late c x
-    goal-whole t e n = goal-clear (rw (← e, n))
+  -- C's, outside of late words, where none is replaced
+  goal-clear : s .compiled ≡ true → isLateTarget c ≡ false → (leavesOut c && replacedWord (spansIn rows (s .spans)) x) ≡ false → To x ≡ goalIn s rows late c x
+  unfolding goalIn isGoneIn
+  goal-clear y n f = rw (y, f, n)
 
   module _ (no : s .compiled ≡ false) where
     pub goal-late : c ≡ LATE-RODATA → (g : Goal) → g ≡ pickGoal (s .runs) (lateGoal (offsetAt late (s .blocks) x)) Unmoved → g ≡ goalIn s rows late c x
@@ -170,6 +152,55 @@ module _ (s : Moves) (rows late : List ℕ) (c x : ℕ) where
     pub goal-same : (c ≡ LATE-RODATA → ⊥) → To x ≡ goalIn s rows late c x
     unfolding goalIn
     goal-same d = rw (no, ne-eqb c LATE-RODATA d)
+
+-- ---- gaps whose entries stay
+
+not-or : (a b : Bool) → not (a || b) ≡ true → (a ≡ false) × (b ≡ false)
+not-or true b e = both e refl
+not-or false true e = both e refl
+not-or false false e = (refl, refl)
+
+module _ (s : Side) (c : ℕ) where
+  pub still-left : s .compiled ≡ true → (a : Bool) → a ≡ leavesOut c → a ≡ true → false ≡ isStill s c
+  unfolding isStill
+  still-left y a e t = rw (y, ← e, t)
+
+  pub still-late : s .compiled ≡ true → (a : Bool) → a ≡ leavesOut c → a ≡ false → (b : Bool) → b ≡ isLateTarget c → not b ≡ isStill s c
+  unfolding isStill
+  still-late y a e n b f = rw (y, ← e, n, ← f)
+
+  pub still-assembled : s .compiled ≡ false → not (eqb c LATE-RODATA) ≡ isStill s c
+  unfolding isStill
+  still-assembled n = rw n
+
+  module _ (rows late : List ℕ) where
+    pub still-goal : isStill s c ≡ true → (x : ℕ) → To x ≡ goalIn (movesOf s) rows late c x
+    unfolding isStill
+    still-goal e x = by-test (s .compiled)
+        (λ y.
+        let p = not-or (leavesOut c) (isLateTarget c) (rw y at e) in
+        goal-clear (movesOf s) rows late c x y (p .1) (rw (p .0)))
+        (λ n. goal-same (movesOf s) rows late c x n (λ q. let f = rw (n, eq-eqb c LATE-RODATA q) at e in both f refl))
+
+    pub stays-still : isStill s c ≡ true → (g : Gap) → Stays s rows late c g
+    stays-still e g = record { stay = λ x l h. still-goal e x }
+
+    pub stays-none : (g : Gap) → g .high ≡ 0 → Stays s rows late c g
+    stays-none g e = record { stay = λ x l h. absurd (omega (arith, e)) }
+
+    pub stays-gap : s .compiled ≡ true → isLateTarget c ≡ false → (g : Gap) → IsGap rows (s .spans) g → Stays s rows late c g
+    stays-gap y n g w = record { stay = λ x l h. goal-clear (movesOf s) rows late c x y n (rw (w .clear x l h) (and-none (leavesOut c))) }
+
+    pub stays-for : (g r : Gap) (sought : Bool) → Stays s rows late c g → (sought ≡ true → (s .compiled ≡ true) × (isLateTarget c ≡ false))
+        → (r ≡ g) ⊎ ((sought ≡ true) × IsGap rows (s .spans) r) → Stays s rows late c r
+    stays-for g r sought w f q = ⊎-elim
+        (λ e. rw e w)
+        (λ p. let u = f (p .0) in stays-gap (u .0) (u .1) r (p .1)) q
+
+    pub stays-in : (g : Gap) → Stays s rows late c g → (x : ℕ) (t : Bool) → t ≡ (leb (g .low) x && ltb x (g .high)) → t ≡ true → To x ≡ goalIn (movesOf s) rows late c x
+    stays-in g w x t e y =
+        let p = and-parts (leb (g .low) x) (ltb x (g .high)) (sym e ∙ y) in
+        w .stay x (leb-true _ _ (p .0)) (ltb-true _ _ (p .1))
 
 module _ (runs : Bool) (late : List ℕ) (n x : ℕ) where
   pub late-to : (r : LatePlace) (p : ℕ) → runs ≡ true → r ≡ offsetAt late n x → r ≡ Moved p → To p ≡ pickGoal runs (lateGoal (offsetAt late n x)) Unmoved
@@ -190,6 +221,14 @@ unfolding newNumber newSymbol
 number-of zero = refl
 number-of (suc x) = refl
 
+module _ (N : List ℕ) (first count k : ℕ) where
+  pub number-in : k < count → (m : ℕ) → m ≡ halfIn N (first + k) → m ≡ newNumber (newIn N first count k)
+  number-in h m e = e ∙ sym (number-of (halfIn N (first + k))) ∙ ap newNumber (sym (new-in N first count k h))
+
+  pub number-past : count ≤ k → 0 ≡ newNumber (newIn N first count k)
+  unfolding newNumber
+  number-past h = rw (new-past N first count k h)
+
 module _ (s : Side) (N : List ℕ) (info : ℕ) where
   pub symbol-compiled : s .first ≡ 0 → (k : ℕ) → k ≡ symbolOf info → (r : NewSymbol) → r ≡ newIn N 0 (s .view .symbols .count) k → r ≡ symbolIn s N info
   unfolding symbolIn
@@ -207,20 +246,28 @@ module _ (s : Side) (N : List ℕ) (info : ℕ) where
       (w .few (s .first + symbolOf info) (omega arith)))
       (λ l. rw (new-past N (s .first) (s .view .symbols .count) (symbolOf info) l) (omega arith))
 
-  module _ (n : NewSymbol) (is : n ≡ symbolIn s N info) (m : ℕ) (number : m ≡ newNumber n) where
+  -- of a number that was read of the symbol k of an r_info
+  module _ (k : ℕ) (is : k ≡ symbolOf info) (m : ℕ) where
+    pub number-compiled : s .first ≡ 0 → m ≡ newNumber (newIn N 0 (s .view .symbols .count) k) → m ≡ newNumber (symbolIn s N info)
+    number-compiled z e = e ∙ ap newNumber (symbol-compiled z k is _ refl)
+
+    pub number-assembled : m ≡ newNumber (newIn N (s .first) (s .view .symbols .count) k) → m ≡ newNumber (symbolIn s N info)
+    number-assembled e = e ∙ ap newNumber (symbol-assembled k is _ refl)
+
+  module _ (m : ℕ) (number : m ≡ newNumber (symbolIn s N info)) where
     pub info-small : SymbolsRead s N → m < 2 ^ 24
-    info-small w = rw (number, is) (number-small w)
+    info-small w = rw number (number-small w)
 
     pub info-read : (k : ℕ) → k ≡ kindOf info → (r : ℕ) → r ≡ relocationInfo m k → r ≡ relocationInfo (newNumber (symbolIn s N info)) (kindOf info)
-    info-read k e r f = rw (← is, ← number, ← e) f
+    info-read k e r f = rw (← number, ← e) f
 
 -- ---- the entry in the result
 
-module _ (s : Side) (N : List ℕ) (g : Goal) (e : RelocationEntry) where
-  pub carried-read : (x y : ℕ) → x ≡ goalPlace g → y ≡ relocationInfo (newNumber (symbolIn s N (e .«r_info»))) (kindOf (e .«r_info»))
-      → _≡_ {A = RelocationEntry} (record { «r_offset» = x; «r_info» = y; «r_addend» = e .«r_addend» }) (carriedTo s N g e)
+module _ (s : Side) (N : List ℕ) (x : ℕ) (e : RelocationEntry) where
+  pub carried-read : (y : ℕ) → y ≡ relocationInfo (newNumber (symbolIn s N (e .«r_info»))) (kindOf (e .«r_info»))
+      → _≡_ {A = RelocationEntry} (record { «r_offset» = x; «r_info» = y; «r_addend» = e .«r_addend» }) (carriedTo s N x e)
   unfolding carriedTo
-  carried-read x y p q = rw (p, q)
+  carried-read y q = rw q
 
 -- ---- whether it is lost
 
@@ -309,71 +356,6 @@ module _ (o : ByteOrder) (F : List ℕ) (table : EntryTable) (k : ℕ) (read : T
   pub entry-inside : Headed o F → k < relocationCount o F (table .index) → table .at + table .size * k + table .size ≤ length F
   entry-inside h l = rw (at-same, width-same) (relocation-inside o F (table .index) k h (record { table = read .below; kind = read .kind; entry = l }))
 
-  pub word-inside : Headed o F → k < relocationCount o F (table .index) → table .at + table .size * k + 4 ≤ length F
-  word-inside h l = by-test (table .rela)
-      (λ y. let w = entry-width ∙ sym (width-rela (table .rela) y) in omega (arith, w, entry-inside h l))
-      (λ n. let w = entry-width ∙ sym (width-rel (table .rela) n) in omega (arith, w, entry-inside h l))
-
   pub entry-read : relocationAt o (table .rela) F (table .at + table .size * k) ≡ relocation o F (table .index) k
   unfolding relocation
   entry-read = rw (at-same, rela-same, width-same)
-
-  pub offset-read : number o 4 F (table .at + table .size * k) ≡ relocation o F (table .index) k .«r_offset»
-  offset-read = sym (relocation-offset o F (table .at + table .size * k) (table .rela)) ∙ ap (λ (e : RelocationEntry). e .«r_offset») entry-read
-
--- ---- none is left out
-
-module _ (s : Side) (c : ℕ) where
-  pub keeps-assembled : s .compiled ≡ false → true ≡ keepsAll s c
-  unfolding keepsAll
-  keeps-assembled n = rw n
-
-  module _ (y : s .compiled ≡ true) (a : Bool) (out : a ≡ leavesOut c) where
-    pub keeps-not : a ≡ true → false ≡ keepsAll s c
-    unfolding keepsAll
-    keeps-not e = rw (y, ← out, e)
-
-    module _ (n : a ≡ false) (b : Bool) (late : b ≡ isLateTarget c) where
-      pub keeps-idle : b ≡ true → not (s .runs) ≡ keepsAll s c
-      unfolding keepsAll
-      keeps-idle e = rw (y, ← out, n, ← late, e)
-
-      pub keeps-other : b ≡ false → true ≡ keepsAll s c
-      unfolding keepsAll
-      keeps-other e = rw (y, ← out, n, ← late, e)
-
-none-gone : (a b d r j : Bool) → not (a || (b && d)) ≡ true → ((a && r) || (b && (d && j))) ≡ false
-none-gone true b d r j e = both e refl
-none-gone false true true r j e = both e refl
-none-gone false true false r j e = refl
-none-gone false false d r j e = refl
-
-late-kept : (runs : Bool) (p : LatePlace) → isLeftOut (pickGoal runs (lateGoal p) Unmoved) ≡ false
-unfolding isLeftOut lateGoal
-late-kept true (Moved x) = refl
-late-kept true NotMoved = refl
-late-kept false p = refl
-
-module _ (s : Side) (rows late : List ℕ) (c : ℕ) (all : keepsAll s c ≡ true) where
-  goal-kept : (x : ℕ) → isLeftOut (goalIn (movesOf s) rows late c x) ≡ false
-  unfolding goalIn isGoneIn keepsAll isLeftOut
-  goal-kept x = by-test (s .compiled)
-      (λ y.
-      let e : not (leavesOut c || (isLateTarget c && s .runs)) ≡ true = rw y at all in
-      rw (y, none-gone (leavesOut c) (isLateTarget c) (s .runs) (replacedWord (spansIn rows (s .spans)) x) (jumpAt late (s .blocks) x) e))
-      (λ n. by-test (eqb c LATE-RODATA)
-      (λ l. rw (n, l) (late-kept (s .runs) (offsetAt late (s .blocks) x)))
-      (λ l. rw (n, l)))
-
-  pub keeps-entry : (e : RelocationEntry) → isKeptEntry s rows late c e ≡ true
-  unfolding isKeptEntry
-  keeps-entry e = rw (goal-kept (e .«r_offset»))
-
--- entry k of a table in hand is kept
-module _ (F : List ℕ) (s : Side) (rows late : List ℕ) (table : EntryTable) (k : ℕ) where
-  pub kept-read : table ≡ entryTableOf (s .order) F (table .index) → (x : ℕ) → x ≡ relocation (s .order) F (table .index) k .«r_offset»
-      → (g : Goal) → g ≡ goalIn (movesOf s) rows late (table .code) x → (t : Bool) → t ≡ isLeftOut g → not t ≡ isKeptIn F s rows late (table .index) k
-  unfolding isKeptIn isKeptEntry entryTableOf
-  kept-read is x offset g goal t out =
-      let code : table .code ≡ codeOf (s .order) F (section (s .order) F (table .index) .«sh_info») = ap (λ (y : EntryTable). y .code) is in
-      rw (← code, ← offset, ← goal, ← out)

@@ -2,18 +2,18 @@
 -- late step in its table, and the numbers of its symbols in two bytes for each id. proofs/InHand.antt says what each is of C, A, P and B.
 use Prim.Native.Nat.{ℕ, _+_, _*_, _^_, _≤_, _<_}
 use mathlib.Core.Path.{_≡_}
-use mathlib.Core.Bool.{Bool, true, false, not, _&&_, _||_}
+use mathlib.Core.Bool.{Bool, true, false, not, cond, _&&_, _||_}
 use mathlib.Core.List.{List, []}
 use lib.ListN.{length}
 use lib.Dec.{eqb}
-use Rattle.base_lists.specs.Ranges.{count, pickList}
+use Rattle.base_lists.specs.Ranges.{pickList}
 use Rattle.base_fields.specs.declared.ByteOrder.{ByteOrder}
 use Rattle.base_packed.specs.Packed.{symbolOf, kindOf, relocationInfo}
 use Rattle.base_scope.specs.Codes.{LATE-RODATA, leavesOut, isLateTarget}
 use Rattle.elf_records.specs.declared.relocation.RelocationEntry.{RelocationEntry}
 use Rattle.elf_records.specs.Relocation.{relocationBytes}
 use Rattle.elf_readers.specs.Readers.{sectionCount, section}
-use Rattle.elf_relocations.specs.Relocations.{isRela, isTable, entrySize, relocationCount, relocation}
+use Rattle.elf_relocations.specs.Relocations.{isRela, isTable, entrySize, relocation}
 use Rattle.elf_check.specs.View.{Viewed}
 use Rattle.blocks_spans.specs.Spans.{replacedWord}
 use Rattle.blocks_spans.specs.Table.{spansIn, Rows}
@@ -32,7 +32,7 @@ use Rattle.carry_entries.specs.declared.Side.{Side}
 use Rattle.carry_entries.specs.declared.Moves.{Moves}
 use Rattle.carry_entries.specs.declared.EntryTable.{EntryTable}
 use Rattle.carry_entries.specs.declared.Gap.{Gap}
-use Rattle.carry_entries.specs.Entries.{Carrying, isLeftOut, isStuck, goalPlace, isInResult, newNumber, isKept, carriedEntry}
+use Rattle.carry_entries.specs.Entries.{Carrying, isLeftOut, isStuck, goalPlace, isInResult, newNumber, OFFSETS}
 use Rattle.carry_entries.specs.Carried.{pickGoal}
 
 -- where an entry at a late offset goes, by the place of that
@@ -86,28 +86,32 @@ unfoldable pub isLostEntry : Side → List ℕ → List ℕ → List ℕ → ℕ
 isLostEntry s rows late N c e =
     isKeptEntry s rows late c e && (isStuck (goalIn (movesOf s) rows late c (e .«r_offset»)) || not (isInResult (symbolIn s N (e .«r_info»))))
 
--- the entry of the result, of one that goes to g
-unfoldable pub carriedTo : Side → List ℕ → Goal → RelocationEntry → RelocationEntry
-carriedTo s N g e = record {
-  «r_offset» = goalPlace g;
+-- the entry of the result, of one that goes to place x
+unfoldable pub carriedTo : Side → List ℕ → ℕ → RelocationEntry → RelocationEntry
+carriedTo s N x e = record {
+  «r_offset» = x;
   «r_info» = relocationInfo (newNumber (symbolIn s N (e .«r_info»))) (kindOf (e .«r_info»));
   «r_addend» = e .«r_addend»;
 }
 
--- entry k of table t is kept, and how many are (proofs/Entries.antt, `kept-is`: keptCount)
-unfoldable pub isKeptIn : List ℕ → Side → List ℕ → List ℕ → ℕ → ℕ → Bool
-isKeptIn F s rows late t k = isKeptEntry s rows late (codeOf (s .order) F (section (s .order) F t .«sh_info»)) (relocation (s .order) F t k)
+-- the bytes that it brings (proofs/Entries.antt, `brought-same`)
+unfoldable pub entryBytes : Side → List ℕ → List ℕ → List ℕ → ℕ → RelocationEntry → List ℕ
+entryBytes s rows late N c e =
+    pickList (isKeptEntry s rows late c e) (relocationBytes (s .order) (carriedTo s N (goalPlace (goalIn (movesOf s) rows late c (e .«r_offset»))) e)) []
 
-unfoldable pub keptIn : List ℕ → Side → List ℕ → List ℕ → ℕ → ℕ
-keptIn F s rows late t = count (isKeptIn F s rows late t) (relocationCount (s .order) F t)
+-- p is where an entry that goes to g stands in the result: OFFSETS where it is left out
+pub record StandsAt (g : Goal) (p : ℕ) : Type 0 where
+  pub left : eqb p OFFSETS ≡ isLeftOut g
+  pub place : isLeftOut g ≡ false → p ≡ goalPlace g
+  pub below : p ≤ OFFSETS
 
--- no entry for the section of code c can be left out (proofs/Goals.antt, `keeps-entry`)
-unfoldable pub keepsAll : Side → ℕ → Bool
-keepsAll s c = not (s .compiled && (leavesOut c || (isLateTarget c && s .runs)))
+-- the bytes of an entry that stands at p
+unfoldable pub placedBytes : Side → List ℕ → ℕ → RelocationEntry → List ℕ
+placedBytes s N p e = pickList (eqb p OFFSETS) [] (relocationBytes (s .order) (carriedTo s N p e))
 
--- the bytes that entry k of table t brings
-unfoldable pub broughtBytes : ByteOrder → List ℕ → Carrying → ℕ → ℕ → List ℕ
-broughtBytes o F w t k = pickList (isKept o F w t k) (relocationBytes o (carriedEntry o F w t k)) []
+-- all entries for the section of code c stay where they are (proofs/Goals.antt, `still-goal`)
+unfoldable pub isStill : Side → ℕ → Bool
+isStill s c = cond (s .compiled) (not (leavesOut c || isLateTarget c)) (not (eqb c LATE-RODATA))
 
 -- ---- what is asked of what is in hand
 
@@ -130,6 +134,10 @@ pub record TableRead (o : ByteOrder) (F : List ℕ) (table : EntryTable) : Type 
 -- no offset in a gap is the start of a replaced word
 pub record IsGap (rows : List ℕ) (n : ℕ) (gap : Gap) : Type 0 where
   pub clear : (x : ℕ) → gap .low ≤ x → x < gap .high → replacedWord (spansIn rows n) x ≡ false
+
+-- and an entry for the section of code c stays where it is, if its offset is in the gap
+pub record Stays (s : Side) (rows late : List ℕ) (c : ℕ) (gap : Gap) : Type 0 where
+  pub stay : (x : ℕ) → gap .low ≤ x → x < gap .high → To x ≡ goalIn (movesOf s) rows late c x
 
 -- where entries go can be read
 pub record GoalsRead (F : List ℕ) (s : Side) (rows late : List ℕ) : Type 0 where

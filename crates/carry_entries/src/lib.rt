@@ -1,17 +1,19 @@
 // The entries of an object's relocation tables in the result, and refusal 20 (specs/Entries.antt). Each function equals its definition over what is in hand (specs/Code.antt);
 // proofs/InHand.antt says what that is of C, A and the block file. Document 01, "Carrying".
 ghost use mathlib.Core.Path.{_≡_};
-ghost use mathlib.Core.Bool.{true, cond, _&&_};
-ghost use Prim.Native.Nat.{_+_, _-_, _*_, _≤_, _<_, min};
+ghost use mathlib.Core.Bool.{true, false, cond, _&&_};
+ghost use mathlib.Core.Logic.{_⊎_};
+ghost use mathlib.Core.List.{List};
+ghost use Prim.Native.Nat.{ℕ, _+_, _-_, _*_, _^_, _≤_, _<_, min};
 ghost use lib.ListN.{length};
 ghost use lib.Dec.{leb, ltb};
 ghost use Rattle.base_lists.specs.Ranges.{first};
-ghost use Rattle.base_lists.specs.Windows.{spliced};
+ghost use Rattle.base_lists.specs.Written.{Written};
 ghost use Rattle.base_packed.specs.Packed.{kindOf, relocationInfo};
 ghost use Rattle.base_scope.specs.Codes.{leavesOut, isLateTarget};
-ghost use Rattle.base_scope.specs.Limits.{BLOCK_LIMIT, SPAN_ROW};
+ghost use Rattle.base_scope.specs.Limits.{FILE_LIMIT, BLOCK_LIMIT, SPAN_ROW};
 ghost use Rattle.base_fields.specs.Layouts.{widthOf};
-ghost use Rattle.elf_records.specs.Relocation.{relocationLayout};
+ghost use Rattle.elf_records.specs.Relocation.{relocationLayout, hasAddend};
 ghost use Rattle.elf_readers.specs.Readers.{sectionCount};
 ghost use Rattle.elf_readers.specs.Bounds.{Headed};
 ghost use Rattle.elf_relocations.specs.Relocations.{isTable, relocationCount, relocation};
@@ -20,12 +22,13 @@ ghost use Rattle.blocks_spans.specs.Spans.{spanEnd, replacedWord};
 ghost use Rattle.blocks_spans.specs.Table.{spanIn, spansIn, Rows, endsBehind};
 ghost use Rattle.late_lookups.specs.Fields.{offsetAt, jumpAt};
 ghost use Rattle.symbols_taken.specs.Code.{LateIn};
+ghost use Rattle.symbols_numbers.specs.Numbers.{newIn};
 ghost use Rattle.carry_clash.specs.Clash.{isCarried};
-ghost use Rattle.carry_entries.specs.declared.Goal.the-variants.{To, Unmoved};
-ghost use Rattle.carry_entries.specs.Entries.{isLeftOut, isStuck, goalPlace, isInResult, newNumber, OFFSETS, carriedBytes, isLost, lossIn, lossFinding};
+ghost use Rattle.carry_entries.specs.declared.Goal.the-variants.{Unmoved};
+ghost use Rattle.carry_entries.specs.Entries.{isLeftOut, isStuck, isInResult, newNumber, OFFSETS, carriedBytes, isLost, lossIn, lossFinding};
 ghost use Rattle.carry_entries.specs.Carried.{pickGoal};
-ghost use Rattle.carry_entries.specs.Code.{lateGoal, pickTables, isGoneIn, goalIn, carryingIn, isKeptIn, keepsAll, symbolIn, isLostEntry, carriedTo};
-ghost use Rattle.carry_entries.specs.Code.{keptIn, broughtBytes, entryTableOf, TableRead, IsGap, GoalsRead, SymbolsRead, EntriesRead};
+ghost use Rattle.carry_entries.specs.Code.{lateGoal, pickTables, movesOf, isGoneIn, goalIn, carryingIn, symbolIn, isLostEntry, carriedTo, placedBytes, isStill, StandsAt};
+ghost use Rattle.carry_entries.specs.Code.{entryTableOf, TableRead, IsGap, Stays, SymbolsRead, EntriesRead};
 use base_fields::ByteOrder;
 use base_packed::MergedSymbol;
 use base_scope::Finding;
@@ -64,6 +67,22 @@ struct Moves {
     pub blocks: usize,
 }
 
+// That of an object.
+fn moves_of(side: Side) -> Moves
+    ensures { λ r. ⌜ r ≡ movesOf side ⌝ }
+{
+    let compiled = side.compiled;
+    let spans = side.spans;
+    let runs = side.runs;
+    let blocks = side.blocks;
+    Moves {
+        compiled,
+        spans,
+        runs,
+        blocks,
+    }
+}
+
 // A relocation table: its section, the code of the section that it relocates, where its entries start in the file, whether they have addends, and the bytes of an entry.
 struct EntryTable {
     pub index: usize,
@@ -85,17 +104,6 @@ fn is_in_gap(gap: Gap, x: usize) -> bool
     ensures { λ r. ⌜ r ≡ (leb (gap .low) x && ltb x (gap .high)) ⌝ }
 {
     base_scope::both(gap.low <= x, x < gap.high)
-}
-
-// A gap that holds nothing.
-fn no_gap() -> Gap
-    ensures { λ r. ⌜ r .high ≡ 0 ⌝ }
-{
-    Gap {
-        low: 0,
-        high: 0,
-        row: 0,
-    }
 }
 
 // Where the span of row r ends.
@@ -162,8 +170,8 @@ fn row_behind(rows: &[u8], n: usize, x: usize) -> usize
 
 // A gap for offset x, which `gap` does not hold: the next one, or `gap` itself where the span between the two covers x; else the last one that starts at x or before.
 fn gap_beside(rows: &[u8], n: usize, x: usize, gap: Gap) -> Gap
-    requires { ⌜ Rows (now rows) n × IsGap (now rows) n gap ⌝ }
-    ensures { λ r. ⌜ IsGap (now (rows .entry)) n r ⌝ }
+    requires { ⌜ Rows (now rows) n ⌝ }
+    ensures { λ r. ⌜ (r ≡ gap) ⊎ IsGap (now (rows .entry)) n r ⌝ }
 {
     if gap.row < n {
         let next = gap_before(rows, n, gap.row + 1);
@@ -193,17 +201,14 @@ fn is_word(rows: &[u8], n: usize, r: usize, x: usize) -> bool
     blocks_spans::is_replaced(rows, n, x)
 }
 
-// Whether a word starts at offset x of the section of a code that a block's copy replaces; entries for it are left out.
-fn is_replaced(moves: Moves, rows: &[u8], code: u32, x: u32, gap: Gap) -> bool
-    requires { ⌜ Rows (now rows) (moves .spans) × IsGap (now rows) (moves .spans) gap ⌝ }
-    ensures { λ r. ⌜ r ≡ (leavesOut code && replacedWord (spansIn (now (rows .entry)) (moves .spans)) x) ⌝ }
+// Whether a word starts at offset x of the section of a code that a block's copy replaces; entries for it are left out. The span of row r is asked first.
+fn is_replaced(moves: Moves, rows: &[u8], code: u32, x: u32, r: usize) -> bool
+    requires { ⌜ Rows (now rows) (moves .spans) ⌝ }
+    ensures { λ b. ⌜ b ≡ (leavesOut code && replacedWord (spansIn (now (rows .entry)) (moves .spans)) x) ⌝ }
 {
     if base_scope::leaves_out(code) {
-        if is_in_gap(gap, x as usize) {
-            return false;
-        }
         let n = moves.spans;
-        return is_word(rows, n, gap.row, x as usize);
+        return is_word(rows, n, r, x as usize);
     }
     false
 }
@@ -224,11 +229,11 @@ fn is_jump(moves: Moves, late: &[u8], code: u32, x: u32) -> bool
 }
 
 // Whether the word at offset x of C's section of a code is written anew.
-fn is_gone(moves: Moves, rows: &[u8], late: &[u8], code: u32, x: u32, gap: Gap) -> bool
-    requires { ⌜ Rows (now rows) (moves .spans) × LateIn (moves .runs) (now late) (moves .blocks) × IsGap (now rows) (moves .spans) gap ⌝ }
-    ensures { λ r. ⌜ r ≡ isGoneIn moves (now (rows .entry)) (now (late .entry)) code x ⌝ }
+fn is_gone(moves: Moves, rows: &[u8], late: &[u8], code: u32, x: u32, r: usize) -> bool
+    requires { ⌜ Rows (now rows) (moves .spans) × LateIn (moves .runs) (now late) (moves .blocks) ⌝ }
+    ensures { λ b. ⌜ b ≡ isGoneIn moves (now (rows .entry)) (now (late .entry)) code x ⌝ }
 {
-    if is_replaced(moves, rows, code, x, gap) {
+    if is_replaced(moves, rows, code, x, r) {
         return true;
     }
     is_jump(moves, late, code, x)
@@ -248,13 +253,13 @@ fn late_goal(runs: bool, late: &[u8], blocks: usize, x: u32) -> Goal
     Goal::Unmoved
 }
 
-// Where an entry at offset x of the section of a code goes.
-fn goal_of(moves: Moves, rows: &[u8], late: &[u8], code: u32, x: u32, gap: Gap) -> Goal
-    requires { ⌜ Rows (now rows) (moves .spans) × LateIn (moves .runs) (now late) (moves .blocks) × IsGap (now rows) (moves .spans) gap ⌝ }
-    ensures { λ r. ⌜ r ≡ goalIn moves (now (rows .entry)) (now (late .entry)) code x ⌝ }
+// Where an entry at offset x of the section of a code goes. The span of row r is asked first.
+fn goal_of(moves: Moves, rows: &[u8], late: &[u8], code: u32, x: u32, r: usize) -> Goal
+    requires { ⌜ Rows (now rows) (moves .spans) × LateIn (moves .runs) (now late) (moves .blocks) ⌝ }
+    ensures { λ g. ⌜ g ≡ goalIn moves (now (rows .entry)) (now (late .entry)) code x ⌝ }
 {
     if moves.compiled {
-        if is_gone(moves, rows, late, code, x, gap) {
+        if is_gone(moves, rows, late, code, x, r) {
             return Goal::LeftOut;
         }
         return Goal::To(x);
@@ -265,25 +270,17 @@ fn goal_of(moves: Moves, rows: &[u8], late: &[u8], code: u32, x: u32, gap: Gap) 
     Goal::To(x)
 }
 
-// Whether an entry at offset x of the section of a code surely stays: one of C's outside of late words where a gap holds it or no word is replaced, one of A's where it is
-// not late. Most entries are told by this.
-fn stays(moves: Moves, rows: &[u8], late: &[u8], code: u32, x: u32, gap: Gap) -> bool
-    requires { ⌜ IsGap (now rows) (moves .spans) gap ⌝ }
-    ensures { λ r. ⌜ (r ≡ true → To x ≡ goalIn moves (now (rows .entry)) (now (late .entry)) code x) ⌝ }
+// Whether all entries for the section of a code stay where they are: C's where no word is written anew, A's where none is late.
+fn is_still(side: Side, code: u32) -> bool
+    ensures { λ r. ⌜ r ≡ isStill side code ⌝ }
 {
-    if moves.compiled {
-        if base_scope::is_late_target(code) {
+    if side.compiled {
+        if base_scope::leaves_out(code) {
             return false;
         }
-        if base_scope::leaves_out(code) {
-            return is_in_gap(gap, x as usize);
-        }
-        return true;
+        return !base_scope::is_late_target(code);
     }
-    if code == base_scope::LATE_RODATA {
-        return false;
-    }
-    true
+    code != base_scope::LATE_RODATA
 }
 
 // Whether an entry that goes there is left out.
@@ -308,13 +305,13 @@ fn is_stuck(goal: Goal) -> bool
     }
 }
 
-// The place, where there is one.
-fn goal_place(goal: Goal) -> u32
-    ensures { λ r. ⌜ r ≡ goalPlace goal ⌝ }
+// Where an entry that goes there stands in the result: behind all offsets where it is left out.
+fn stands_at(goal: Goal) -> usize
+    ensures { λ r. ⌜ StandsAt goal r ⌝ }
 {
     match goal {
-        Goal::To(x) => x,
-        Goal::LeftOut => 0,
+        Goal::To(x) => x as usize,
+        Goal::LeftOut => OFFSETS,
         Goal::Unmoved => 0,
     }
 }
@@ -344,14 +341,32 @@ fn is_in_result(symbol: NewSymbol) -> bool
     }
 }
 
-// Its index there, where it is.
-fn merged_symbol(symbol: NewSymbol) -> MergedSymbol
-    ensures { λ r. ⌜ r .0 ≡ newNumber symbol ⌝ }
+// The new index of an object's symbol k, whose ids start at `first`; 0 where it is not in the result.
+fn number_at(numbers: &[u8], first: usize, count: usize, k: u32) -> MergedSymbol
+    requires { ⌜ 2 * (first + count) ≤ length (now numbers) ⌝ }
+    ensures { λ r. ⌜ r .0 ≡ newNumber (newIn (now (numbers .entry)) first count k) ⌝ }
 {
-    match symbol {
-        NewSymbol::Merged(m) => m,
-        NewSymbol::Gone => MergedSymbol(0),
+    let i = k as usize;
+    if i < count {
+        return MergedSymbol(symbols_rows::half_at(numbers, first + i) as u32);
     }
+    MergedSymbol(0)
+}
+
+// The new index of the symbol of an r_info.
+fn number_of(side: Side, numbers: &[u8], info: u32) -> MergedSymbol
+    requires { ⌜ SymbolsRead side (now numbers) ⌝ }
+    ensures { λ r. ⌜ r .0 ≡ newNumber (symbolIn side (now (numbers .entry)) info) ⌝ }
+{
+    let view = side.view;
+    let symbols = view.symbols;
+    let count = symbols.count;
+    if side.compiled {
+        let own = base_packed::compiled_symbol(info);
+        return number_at(numbers, 0, count, own.0);
+    }
+    let other = base_packed::assembled_symbol(info);
+    number_at(numbers, side.first, count, other.0)
 }
 
 // The r_info in the result: the symbol's new index and the old kind.
@@ -359,18 +374,18 @@ fn carried_info(side: Side, numbers: &[u8], info: u32) -> u32
     requires { ⌜ SymbolsRead side (now numbers) ⌝ }
     ensures { λ r. ⌜ r ≡ relocationInfo (newNumber (symbolIn side (now (numbers .entry)) info)) (kindOf info) ⌝ }
 {
-    let symbol = merged_symbol(symbol_of(side, numbers, info));
+    let symbol = number_of(side, numbers, info);
     base_packed::relocation_info(symbol, base_packed::kind_of(info))
 }
 
-// The entry of the result, of one that goes to `goal`.
-fn carried_entry(side: Side, numbers: &[u8], goal: Goal, entry: RelocationEntry) -> RelocationEntry
+// The entry of the result, of one that goes to `place`.
+fn carried_entry(side: Side, numbers: &[u8], place: u32, entry: RelocationEntry) -> RelocationEntry
     requires { ⌜ SymbolsRead side (now numbers) ⌝ }
-    ensures { λ r. ⌜ r ≡ carriedTo side (now (numbers .entry)) goal entry ⌝ }
+    ensures { λ r. ⌜ r ≡ carriedTo side (now (numbers .entry)) place entry ⌝ }
 {
     let addend = entry.r_addend;
     RelocationEntry {
-        r_offset: goal_place(goal),
+        r_offset: place,
         r_info: carried_info(side, numbers, entry.r_info),
         r_addend: addend,
     }
@@ -389,26 +404,16 @@ fn is_lost(
     requires { ⌜ Rows (now rows) (side .spans) × LateIn (side .runs) (now late) (side .blocks) × SymbolsRead side (now numbers) ⌝ }
     ensures { λ r. ⌜ r ≡ isLostEntry side (now (rows .entry)) (now (late .entry)) (now (numbers .entry)) code entry ⌝ }
 {
-    let compiled = side.compiled;
-    let spans = side.spans;
-    let runs = side.runs;
-    let blocks = side.blocks;
-    let moves = Moves {
-        compiled,
-        spans,
-        runs,
-        blocks,
-    };
     if is_in_result(symbol_of(side, numbers, entry.r_info)) {
-        if compiled {
+        if side.compiled {
             return false;
         }
         if code != base_scope::LATE_RODATA {
             return false;
         }
-        return is_stuck(goal_of(moves, rows, late, code, entry.r_offset, no_gap()));
+        return is_stuck(goal_of(moves_of(side), rows, late, code, entry.r_offset, 0));
     }
-    !is_left_out(goal_of(moves, rows, late, code, entry.r_offset, no_gap()))
+    !is_left_out(goal_of(moves_of(side), rows, late, code, entry.r_offset, 0))
 }
 
 // The bytes of an entry, with an addend or with none.
@@ -444,221 +449,129 @@ fn entry_at(file: &[u8], order: ByteOrder, table: EntryTable, k: usize) -> Reloc
     RelocationEntry::new(order, table.rela, file, table.at + table.size * k)
 }
 
-// Its offset alone.
-fn offset_at(file: &[u8], order: ByteOrder, table: EntryTable, k: usize) -> u32
-    requires { ⌜ Headed order (now file) × TableRead order (now file) table × (k < relocationCount order (now file) (table .index)) ⌝ }
-    ensures { λ r. ⌜ r ≡ relocation order (now (file .entry)) (table .index) k .«r_offset» ⌝ }
-{
-    base_fields::read32(order, file, table.at + table.size * k)
-}
-
-// Whether gaps tell of the entries for the section of a code: some of C's may be left out there.
+// Whether the entries for the section of a code stay in gaps: C's, where words are replaced and none is a jump table's.
 fn is_sought(side: Side, code: u32) -> bool
-    ensures { λ r. ⌜ r ≡ (side .compiled && leavesOut code) ⌝ }
+    ensures { λ r. ⌜ (r ≡ true → (side .compiled ≡ true) × (isLateTarget code ≡ false)) ⌝ }
 {
-    base_scope::both(side.compiled, base_scope::leaves_out(code))
+    if side.compiled {
+        if base_scope::is_late_target(code) {
+            return false;
+        }
+        return base_scope::leaves_out(code);
+    }
+    false
 }
 
-// A gap for an entry at offset x: `gap`, or where that does not tell of it, another.
-fn gap_near(rows: &[u8], n: usize, x: usize, gap: Gap) -> Gap
-    requires { ⌜ Rows (now rows) n × IsGap (now rows) n gap ⌝ }
-    ensures { λ r. ⌜ IsGap (now (rows .entry)) n r ⌝ }
+// The first gap for the entries of the section of a code: it holds all offsets where all entries stay, and none where they are asked one by one.
+fn first_gap(side: Side, rows: &[u8], code: u32) -> Gap
+    requires { ⌜ Rows (now rows) (side .spans) ⌝ }
+    ensures { λ g. ⌜ ((late : List ℕ) → Stays side (now (rows .entry)) late code g) ⌝ }
+{
+    if is_sought(side, code) {
+        let n = side.spans;
+        return gap_before(rows, n, 0);
+    }
+    if is_still(side, code) {
+        return Gap {
+            low: 0,
+            high: OFFSETS,
+            row: 0,
+        };
+    }
+    Gap {
+        low: 0,
+        high: 0,
+        row: 0,
+    }
+}
+
+// A gap for an entry at offset x: `gap`, or where that does not hold it and gaps are sought, another.
+fn gap_for(sought: bool, rows: &[u8], n: usize, x: usize, gap: Gap) -> Gap
+    requires { ⌜ Rows (now rows) n ⌝ }
+    ensures { λ r. ⌜ (r ≡ gap) ⊎ ((sought ≡ true) × IsGap (now (rows .entry)) n r) ⌝ }
 {
     if is_in_gap(gap, x) {
         return gap;
     }
-    gap_beside(rows, n, x, gap)
-}
-
-// The same where a gap is sought; else `gap` will do.
-fn gap_for(sought: bool, rows: &[u8], n: usize, x: usize, gap: Gap) -> Gap
-    requires { ⌜ Rows (now rows) n × IsGap (now rows) n gap ⌝ }
-    ensures { λ r. ⌜ IsGap (now (rows .entry)) n r ⌝ }
-{
     if sought {
-        return gap_near(rows, n, x, gap);
+        return gap_beside(rows, n, x, gap);
     }
     gap
 }
 
-// Whether entry k of a table is kept.
-fn is_kept(
-    file: &[u8],
-    side: Side,
-    rows: &[u8],
-    late: &[u8],
-    table: EntryTable,
-    k: usize,
-    gap: Gap,
-) -> bool
-    requires { ⌜ GoalsRead (now file) side (now rows) (now late) × TableRead (side .order) (now file) table
-        × (k < relocationCount (side .order) (now file) (table .index)) × IsGap (now rows) (side .spans) gap ⌝ }
-    ensures { λ r. ⌜ r ≡ isKeptIn (now (file .entry)) side (now (rows .entry)) (now (late .entry)) (table .index) k ⌝ }
+// Where an entry at offset x of the section of a code stands in the result. The span of row r is asked first.
+fn place_asked(side: Side, rows: &[u8], late: &[u8], code: u32, x: u32, r: usize) -> usize
+    requires { ⌜ Rows (now rows) (side .spans) × LateIn (side .runs) (now late) (side .blocks) ⌝ }
+    ensures { λ p. ⌜ StandsAt (goalIn (movesOf side) (now (rows .entry)) (now (late .entry)) code x) p ⌝ }
 {
-    let order = side.order;
-    let compiled = side.compiled;
-    let spans = side.spans;
-    let runs = side.runs;
-    let blocks = side.blocks;
-    let moves = Moves {
-        compiled,
-        spans,
-        runs,
-        blocks,
-    };
-    let x = offset_at(file, order, table, k);
-    if stays(moves, rows, late, table.code, x, gap) {
-        return true;
-    }
-    !is_left_out(goal_of(moves, rows, late, table.code, x, gap))
+    stands_at(goal_of(moves_of(side), rows, late, code, x, r))
 }
 
-// What an entry adds to the number of those that are kept.
-fn one_if(kept: bool) -> usize
-    ensures { λ r. ⌜ (r ≡ cond kept 1 0) × (r ≤ 1) ⌝ }
-{
-    if kept { 1 } else { 0 }
-}
-
-// Whether no entry for the section of a code can be left out: the object is A, or no word of the section is written anew.
-fn keeps_all(side: Side, code: u32) -> bool
-    ensures { λ r. ⌜ r ≡ keepsAll side code ⌝ }
-{
-    if side.compiled {
-        if base_scope::leaves_out(code) {
-            return false;
-        }
-        if base_scope::is_late_target(code) {
-            return !side.runs;
-        }
-        return true;
-    }
-    true
-}
-
-// How many entries of table t are kept: they are counted only where some can be left out.
-pub fn kept_count(file: &[u8], side: Side, rows: &[u8], late: &[u8], t: usize) -> usize
-    requires { ⌜ GoalsRead (now file) side (now rows) (now late) × (t < sectionCount (side .order) (now file))
-        × (isTable (side .order) (now file) t ≡ true) ⌝ }
-    ensures { λ r. ⌜ r ≡ keptIn (now (file .entry)) side (now (rows .entry)) (now (late .entry)) t ⌝ }
-{
-    let order = side.order;
-    let table = table_at(file, side, t);
-    let n = elf_relocations::relocation_count(order, file, t);
-    if keeps_all(side, table.code) {
-        return n;
-    }
-    let spans = side.spans;
-    let mut gap = gap_before(rows, spans, 0);
-    let mut kept: usize = 0;
-    let mut k: usize = 0;
-    while k < n {
-        let x = offset_at(file, order, table, k) as usize;
-        gap = gap_near(rows, spans, x, gap);
-        kept += one_if(is_kept(file, side, rows, late, table, k, gap));
-        k += 1;
-    }
-    kept
-}
-
-// Writes what entry k of a table brings at `at`, and answers where it ends. The entry is in hand.
-fn write_entry(
+// Appends an entry of `size` bytes that stands at `place` in the result, if it stands there at all: it is written where there is room.
+fn append_entry(
     out: &mut [u8],
-    at: usize,
-    file: &[u8],
+    at: u64,
     side: Side,
-    rows: &[u8],
-    late: &[u8],
     numbers: &[u8],
-    table: EntryTable,
-    k: usize,
+    size: usize,
+    place: usize,
     entry: RelocationEntry,
-    gap: Gap,
-) -> usize
-    requires { ⌜ EntriesRead (now file) side (now rows) (now late) (now numbers) × TableRead (side .order) (now file) table
-        × (k < relocationCount (side .order) (now file) (table .index))
-        × (at + length (broughtBytes (side .order) (now file) (carryingIn (now file) side (now rows) (now late) (now numbers)) (table .index) k) ≤ length (now out))
-        × IsGap (now rows) (side .spans) gap × (entry ≡ relocation (side .order) (now file) (table .index) k) ⌝ }
-    ensures { λ r. ⌜ (now (out .exit) ≡ spliced (now (out .entry)) at
-        (broughtBytes (side .order) (now (file .entry)) (carryingIn (now (file .entry)) side (now (rows .entry)) (now (late .entry)) (now (numbers .entry))) (table .index) k))
-        × (r ≡ at + length
-        (broughtBytes (side .order) (now (file .entry)) (carryingIn (now (file .entry)) side (now (rows .entry)) (now (late .entry)) (now (numbers .entry))) (table .index) k)) ⌝ }
+) -> u64
+    requires { ⌜ SymbolsRead side (now numbers) × (size ≡ widthOf (relocationLayout (hasAddend entry))) × (place ≤ OFFSETS) × (at < 2 ^ 63) ⌝ }
+    ensures { λ r. ⌜ Written (now (out .entry)) at (placedBytes side (now (numbers .entry)) place entry) r (now (out .exit)) ⌝ }
 {
-    let order = side.order;
-    let compiled = side.compiled;
-    let spans = side.spans;
-    let runs = side.runs;
-    let blocks = side.blocks;
-    let moves = Moves {
-        compiled,
-        spans,
-        runs,
-        blocks,
-    };
-    if stays(moves, rows, late, table.code, entry.r_offset, gap) {
-        let stayed = carried_entry(side, numbers, Goal::To(entry.r_offset), entry);
-        stayed.write(order, out, at);
-        return at + table.size;
-    }
-    // The few that may go elsewhere have their own, so that the others need not store it.
-    let own = Moves {
-        compiled,
-        spans,
-        runs,
-        blocks,
-    };
-    let goal = goal_of(own, rows, late, table.code, entry.r_offset, gap);
-    if is_left_out(goal) {
+    if place == OFFSETS {
         return at;
     }
-    let carried = carried_entry(side, numbers, goal, entry);
-    carried.write(order, out, at);
-    at + table.size
+    let order = side.order;
+    let end = at + size as u64;
+    if end <= out.len() as u64 {
+        let carried = carried_entry(side, numbers, place as u32, entry);
+        carried.write(order, out, at as usize);
+    }
+    end
 }
 
-// Writes the entries of table t that are kept, one behind the other from `at` on, and answers where they end.
-pub fn write_entries(
+// Appends the entries of table t that are kept, in old order: written as far as there is room, and counted behind it. Where all stay and there is not room for all, they need
+// not be read.
+pub fn append_entries(
     out: &mut [u8],
-    at: usize,
+    at: u64,
     file: &[u8],
     side: Side,
     rows: &[u8],
     late: &[u8],
     numbers: &[u8],
     t: usize,
-) -> usize
-    requires { ⌜ EntriesRead (now file) side (now rows) (now late) (now numbers) × (t < sectionCount (side .order) (now file))
-        × (isTable (side .order) (now file) t ≡ true)
-        × (at + length (carriedBytes (side .order) (now file) (carryingIn (now file) side (now rows) (now late) (now numbers)) t) ≤ length (now out)) ⌝ }
-    ensures { λ r. ⌜ (now (out .exit) ≡ spliced (now (out .entry)) at
-        (carriedBytes (side .order) (now (file .entry)) (carryingIn (now (file .entry)) side (now (rows .entry)) (now (late .entry)) (now (numbers .entry))) t))
-        × (r ≡ at + length
-        (carriedBytes (side .order) (now (file .entry)) (carryingIn (now (file .entry)) side (now (rows .entry)) (now (late .entry)) (now (numbers .entry))) t)) ⌝ }
+) -> u64
+    requires { ⌜ EntriesRead (now file) side (now rows) (now late) (now numbers) × (t < sectionCount (side .order) (now file)) × (isTable (side .order) (now file) t ≡ true)
+        × (length (now file) ≤ FILE_LIMIT) × (at < 2 ^ 62) ⌝ }
+    ensures { λ r. ⌜ Written (now (out .entry)) at
+        (carriedBytes (side .order) (now (file .entry)) (carryingIn (now (file .entry)) side (now (rows .entry)) (now (late .entry)) (now (numbers .entry))) t) r (now (out .exit))
+        × (r ≤ at + FILE_LIMIT) ⌝ }
 {
     let order = side.order;
     let table = table_at(file, side, t);
     let n = elf_relocations::relocation_count(order, file, t);
+    if is_still(side, table.code) {
+        let all = at + (table.size * n) as u64;
+        if all > out.len() as u64 {
+            return all;
+        }
+    }
     let spans = side.spans;
     let sought = is_sought(side, table.code);
-    let mut gap = gap_before(rows, spans, 0);
+    let mut gap = first_gap(side, rows, table.code);
     let mut next = at;
     let mut k: usize = 0;
     while k < n {
         let entry = entry_at(file, order, table, k);
         gap = gap_for(sought, rows, spans, entry.r_offset as usize, gap);
-        next = write_entry(
-            out,
-            next,
-            file,
-            side,
-            rows,
-            late,
-            numbers,
-            table,
-            k,
-            entry,
-            gap,
-        );
+        let mut place = entry.r_offset as usize;
+        if !is_in_gap(gap, place) {
+            place = place_asked(side, rows, late, table.code, entry.r_offset, gap.row);
+        }
+        next = append_entry(out, next, side, numbers, table.size, place, entry);
         k += 1;
     }
     next

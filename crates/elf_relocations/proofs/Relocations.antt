@@ -178,15 +178,3 @@ module _ (o : ByteOrder) (F : List ℕ) (t k : ℕ) where
   -- and so in the file
   pub relocation-inside : Headed o F → Listed o F t k → section o F t .«sh_offset» + entrySize o F t * k + entrySize o F t ≤ length F
   relocation-inside s l = omega (arith, s .held t (l .table) (table-type o F t (l .kind)), listed-held l)
-
-  -- from where the entries start, in hand
-  module _ (at : ℕ) (rela : Bool) (size : ℕ) (is : at ≡ section o F t .«sh_offset») (kind : rela ≡ isRela o F t) (wide : size ≡ widthOf (relocationLayout rela)) where
-    size-read : size ≡ entrySize o F t
-    size-read = size-kind o F t rela size kind wide
-
-    pub inside-read : Headed o F → Listed o F t k → at + size * k + size ≤ length F
-    inside-read s l = rw (is, size-read) (relocation-inside s l)
-
-    pub relocation-read : relocationAt o rela F (at + size * k) ≡ relocation o F t k
-    unfolding relocation
-    relocation-read = rw (is, size-read, kind)

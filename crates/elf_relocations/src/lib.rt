@@ -1,17 +1,15 @@
-// The relocation tables of an object: which they are, their entries, and refusal 6. Each equals its definition in specs/.
+// The relocation tables of an object: which they are, how many entries they have, and refusal 6. Each equals its definition in specs/.
 ghost use mathlib.Core.Path.{_≡_};
-ghost use Prim.Native.Nat.{_+_, _*_, _≤_, _<_};
-ghost use lib.ListN.{length};
+ghost use Prim.Native.Nat.{_≤_, _<_};
 ghost use Rattle.base_lists.specs.Ranges.{first};
 ghost use Rattle.base_fields.specs.Layouts.{widthOf};
 ghost use Rattle.elf_records.specs.Relocation.{relocationLayout};
 ghost use Rattle.elf_readers.specs.Readers.{sectionCount};
 ghost use Rattle.elf_readers.specs.Bounds.{Headed};
 ghost use Rattle.elf_symbols.specs.Symbols.{symtab};
-ghost use Rattle.elf_relocations.specs.Relocations.{isRela, isTable, entrySize, relocationTableSound, badTable, relocationFault, relocates, tableFrom, relocationCount, relocation, Listed};
+ghost use Rattle.elf_relocations.specs.Relocations.{isRela, isTable, entrySize, relocationTableSound, badTable, relocationFault, relocates, tableFrom, relocationCount};
 use base_fields::ByteOrder;
 use base_scope::Finding;
-use elf_records::RelocationEntry;
 
 // Whether section i has relocations with addends.
 pub fn is_rela(order: ByteOrder, file: &[u8], i: usize) -> bool
@@ -124,15 +122,4 @@ pub fn relocation_count(order: ByteOrder, file: &[u8], t: usize) -> usize
     let h = elf_readers::section_at(order, file, t);
     let size = entry_size(order, file, t);
     h.sh_size as usize / size
-}
-
-// Entry k of table t.
-pub fn relocation_at(order: ByteOrder, file: &[u8], t: usize, k: usize) -> RelocationEntry
-    requires { ⌜ Headed order (now file) × Listed order (now file) t k ⌝ }
-    ensures { λ r. ⌜ r ≡ relocation order (now (file .entry)) t k ⌝ }
-{
-    let headers = elf_readers::header_place(order, file, 0);
-    let rela = elf_readers::section_type(order, file, headers, t) == base_scope::SHT_RELA;
-    let at = elf_readers::header_word(order, file, headers, t, 4) as usize;
-    RelocationEntry::new(order, rela, file, at + width_of(rela) * k)
 }

@@ -1,6 +1,6 @@
 -- The marks of used symbols: a list is what it has at each index, so marking an entry, a table and all tables are each one `marked`, and two are one with either test. Assumes
 -- nothing.
-use Prim.Native.Nat.{ℕ, _+_, _≤_, _<_}
+use Prim.Native.Nat.{ℕ, _+_, _*_, _≤_, _<_}
 use mathlib.Core.Path.{_≡_, refl, sym, ap, _∙_}
 use mathlib.Core.Bool.{Bool, true, false, cond, _||_}
 use mathlib.Core.List.{List, _++_}
@@ -19,10 +19,14 @@ use Rattle.base_packed.specs.Packed.{symbolOf}
 use Rattle.base_buffers.specs.Buffers.{zeros}
 use Rattle.base_buffers.proofs.Buffers.{length-zeros}
 use Rattle.base_fields.specs.declared.ByteOrder.{ByteOrder}
+use Rattle.base_fields.specs.Numbers.{number}
 use Rattle.base_scope.specs.Limits.{SYMBOL_LIMIT}
-use Rattle.elf_readers.specs.Readers.{sectionCount}
+use Rattle.elf_records.proofs.Offsets.{relocation-info}
+use Rattle.elf_readers.specs.Readers.{sectionCount, section}
+use Rattle.elf_readers.specs.Bounds.{Headed}
 use Rattle.elf_symbols.specs.Symbols.{symbolCount, Tabled}
-use Rattle.elf_relocations.specs.Relocations.{relocationCount, relocation}
+use Rattle.elf_relocations.specs.Relocations.{isRela, entrySize, relocationCount, relocation, Listed}
+use Rattle.elf_relocations.proofs.Relocations.{relocation-inside}
 use Rattle.symbols_taken.specs.Used.{isSourceTable, usesSymbol, isUsed}
 use Rattle.symbols_taken.specs.Code.{marked, usedBelow, usedIn, usedTo, usedBytes}
 
@@ -65,6 +69,20 @@ module _ (x y : ℕ) (l : List ℕ) (same : x ≡ y) where
 
   pub marked-past : length l ≤ x → l ≡ marked (λ k. eqb y k) l
   marked-past h = marked-is (λ k. eqb y k) l l refl (λ k g. let n : (y ≡ k → ⊥) = λ e. absurd (omega arith) in rw (ne-eqb y k n))
+
+-- ---- the r_info of an entry, from where the table's entries start
+
+module _ (o : ByteOrder) (A : List ℕ) (t j at size : ℕ) (is : at ≡ section o A t .«sh_offset») (wide : size ≡ entrySize o A t) where
+  pub entry-inside : Headed o A → Listed o A t j → at + size * j + size ≤ length A
+  entry-inside h l = rw (is, wide) (relocation-inside o A t j h l)
+
+  info-read : number o 4 A (at + size * j + 4) ≡ relocation o A t j .«r_info»
+  unfolding relocation
+  info-read = rw (is, wide) (sym (relocation-info o A (section o A t .«sh_offset» + entrySize o A t * j) (isRela o A t)))
+
+  pub marked-info : (x : ℕ) → x ≡ number o 4 A (at + size * j + 4) → (l : List ℕ)
+      → marked (λ k. eqb (symbolOf x) k) l ≡ marked (λ k. eqb (symbolOf (relocation o A t j .«r_info»)) k) l
+  marked-info x e l = ap (λ (y : ℕ). marked (λ k. eqb (symbolOf y) k) l) (e ∙ info-read)
 
 -- ---- the entries of a table, and the tables
 

@@ -16,7 +16,6 @@ ghost use Rattle.base_scope.specs.Text.{text};
 ghost use Rattle.elf_readers.specs.Readers.{sectionCount};
 ghost use Rattle.elf_readers.specs.Bounds.{Headed};
 ghost use Rattle.elf_symbols.specs.Symbols.{symbolCount, Entries};
-ghost use Rattle.elf_relocations.specs.Relocations.{relocation, Listed};
 ghost use Rattle.elf_check.specs.View.{Viewed};
 ghost use Rattle.symbols_taken.specs.Used.{isSourceTable, isUsed};
 ghost use Rattle.symbols_taken.specs.Taken.{isHelper, isTakenC, isTakenA};
@@ -70,28 +69,30 @@ pub fn is_source_table(order: ByteOrder, assembled: &[u8], view: View, t: usize)
     false
 }
 
-// Marks the symbol of entry j of table t. An index past the symbols has no mark.
-fn mark_entry(order: ByteOrder, assembled: &[u8], t: usize, j: usize, used: &mut [u8])
-    requires { ⌜ Headed order (now assembled) × Listed order (now assembled) t j ⌝ }
-    ensures { λ _. ⌜ now (used .exit) ≡ marked (λ k. eqb (symbolOf (relocation order (now (assembled .entry)) t j .«r_info»)) k) (now (used .entry)) ⌝ }
+// Marks the symbol of an r_info. An index past the symbols has no mark.
+fn mark_symbol(info: u32, used: &mut [u8])
+    ensures { λ _. ⌜ now (used .exit) ≡ marked (λ k. eqb (symbolOf info) k) (now (used .entry)) ⌝ }
 {
-    let entry = elf_relocations::relocation_at(order, assembled, t, j);
-    let symbol = base_packed::assembled_symbol(entry.r_info);
+    let symbol = base_packed::assembled_symbol(info);
     let k = symbol.0 as usize;
     if k < used.len() {
         used[k] = 1;
     }
 }
 
-// Marks the symbols of the entries of table t, which relocates one of the five.
+// Marks the symbols of the entries of table t, which relocates one of the five. Of an entry only its r_info is read.
 fn mark_entries(order: ByteOrder, assembled: &[u8], t: usize, used: &mut [u8])
     requires { ⌜ Headed order (now assembled) × (t < sectionCount order (now assembled)) × (isSourceTable order (now assembled) t ≡ true) ⌝ }
     ensures { λ _. ⌜ now (used .exit) ≡ marked (usedIn order (now (assembled .entry)) t) (now (used .entry)) ⌝ }
 {
+    let h = elf_readers::section_at(order, assembled, t);
+    let at = h.sh_offset as usize;
+    let size = elf_relocations::entry_size(order, assembled, t);
     let n = elf_relocations::relocation_count(order, assembled, t);
     let mut j: usize = 0;
     while j < n {
-        mark_entry(order, assembled, t, j, used);
+        let info = base_fields::read32(order, assembled, at + size * j + 4);
+        mark_symbol(info, used);
         j += 1;
     }
 }

@@ -63,7 +63,7 @@ fn append_kept(
 {
     if i < carry.stay {
         let side = carry_stage::compiled_side(stage, carry);
-        return write_tables::append_entries(out, at, compiled, side, rows, late, numbers, i);
+        return carry_entries::append_entries(out, at, compiled, side, rows, late, numbers, i);
     }
     at
 }

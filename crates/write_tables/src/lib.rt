@@ -1,58 +1,13 @@
-// The relocation tables of the result, appended: the entries that a table of C or A brings, and those of A's tables that join a section. Each function says `Written` of its
-// definition: entries that do not fit are counted and not written.
-ghost use mathlib.Core.Path.{_≡_};
-ghost use mathlib.Core.Bool.{true};
+// The entries of A's relocation tables that join a section of the result, appended. Each function says `Written` of its definition: entries that do not fit are counted and not
+// written.
 ghost use Prim.Native.Nat.{_+_, _*_, _^_, _≤_, _<_};
 ghost use lib.ListN.{length};
 ghost use Rattle.base_lists.specs.Written.{Written};
-ghost use Rattle.elf_readers.specs.Readers.{sectionCount};
-ghost use Rattle.elf_relocations.specs.Relocations.{isTable};
 ghost use Rattle.carry_entries.specs.Entries.{carriedBytes};
 ghost use Rattle.carry_entries.specs.Code.{carryingIn, EntriesRead};
 ghost use Rattle.base_scope.specs.Limits.{FILE_LIMIT};
 ghost use Rattle.write_tables.specs.Tables.{broughtBy, joinedIn, TableRows};
 use carry_entries::Side;
-
-// Appends the entries that table t brings. Where there is room for all of its entries they need not be counted first.
-pub fn append_entries(
-    out: &mut [u8],
-    at: u64,
-    file: &[u8],
-    side: Side,
-    rows: &[u8],
-    late: &[u8],
-    numbers: &[u8],
-    t: usize,
-) -> u64
-    requires { ⌜ EntriesRead (now file) side (now rows) (now late) (now numbers) × (t < sectionCount (side .order) (now file)) × (isTable (side .order) (now file) t ≡ true)
-        × (length (now file) ≤ FILE_LIMIT) × (at < 2 ^ 62) ⌝ }
-    ensures { λ r. ⌜ Written (now (out .entry)) at
-        (carriedBytes (side .order) (now (file .entry)) (carryingIn (now (file .entry)) side (now (rows .entry)) (now (late .entry)) (now (numbers .entry))) t) r (now (out .exit))
-        × (r ≤ at + FILE_LIMIT) ⌝ }
-{
-    let order = side.order;
-    let size = elf_relocations::entry_size(order, file, t);
-    let all = elf_relocations::relocation_count(order, file, t);
-    let most = at + (size * all) as u64;
-    if most <= out.len() as u64 {
-        return carry_entries::write_entries(
-            out,
-            at as usize,
-            file,
-            side,
-            rows,
-            late,
-            numbers,
-            t,
-        ) as u64;
-    }
-    let kept = carry_entries::kept_count(file, side, rows, late, t);
-    let end = at + (size * kept) as u64;
-    if end <= out.len() as u64 {
-        carry_entries::write_entries(out, at as usize, file, side, rows, late, numbers, t);
-    }
-    end
-}
 
 // Row j's turn in joining section i: the entries of its table, where that is its home.
 fn append_row(
@@ -75,7 +30,7 @@ fn append_row(
 {
     if carry_homes::home_at(homes, j) == i {
         let t = carry_homes::table_at(homes, j);
-        return append_entries(out, at, file, side, rows, late, numbers, t);
+        return carry_entries::append_entries(out, at, file, side, rows, late, numbers, t);
     }
     at
 }

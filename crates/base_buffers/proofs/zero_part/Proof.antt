@@ -1,15 +1,15 @@
--- Bytes that 0 is not below are zero already; any others are cleared and put back. Assumes nothing.
+-- Bytes of which none is used are zero already; any others are cleared and put back. Assumes nothing.
 use Rattle.base_buffers.proofs.Buffers.{bytes-zero, part-kept, part-cleared}
 use borrow.Author.Needs.{needs}
 use native.Mathlib.Omega.{arith}
 use Prim.Native.Nat.{ℕ, _+_, _-_}
-use mathlib.Core.Path.{_≡_}
+use mathlib.Core.Path.{_≡_, refl}
 use denote.Ref.{now}
 use Rattle.base_buffers.proofs.zero_part.Statement.{statement}
 use Rattle.base_buffers.proofs.zero_part.Tie as tie
 
-greatest-requires : tie.Need-greatest-requires
-greatest-requires c κs = search needs
+is-used-requires : tie.Need-is-used-requires
+is-used-requires c κs = search needs
 
 add-end : tie.Need-add-end
 add-end c = search needs
@@ -43,13 +43,13 @@ returns-2 : tie.Need-returns-2
 returns-2 c =
     let b = c .before .before .before .before in
     let a = b .args in
-    part-kept (now (a .s)) (a .at) (a .n) (b .pre) (bytes-zero (now (a .s)) (a .at) (a .n) _ (b .pre) (omega (arith, c .if1 .left)) (c .before .greatest .ensures))
+    part-kept (now (a .s)) (a .at) (a .n) (b .pre) (bytes-zero (now (a .s)) (a .at) (a .n) 0 (b .pre) refl (c .before .is-used .ensures (c .if1 .left)))
 
 pub zero-part-spec : {M : Type 1} → statement M
 zero-part-spec =
     tie.close
     (tie.spec
-    greatest-requires
+    is-used-requires
     add-end
     sub-clear
     part-clear-start

@@ -5,23 +5,13 @@ use Rattle.carry_entries.proofs.Goals.{carried-read}
 use Rattle.carry_entries.proofs.carried_entry.Statement.{statement}
 use Rattle.carry_entries.proofs.carried_entry.Tie as tie
 
-goal-place-requires : tie.Need-goal-place-requires
-goal-place-requires c κs = search needs
-
 carried-info-requires : tie.Need-carried-info-requires
 carried-info-requires c κs = search needs
 
 returns : tie.Need-returns
 returns c =
-    let goal-place = c .before .goal-place in
-    let carried-info = c .carried-info in
-    let a = c .before .before .before .args in
-    carried-read (a .side) (now (a .numbers)) (a .goal) (a .entry) _ _ (goal-place .ensures) (carried-info .ensures)
+    let a = c .before .before .args in
+    carried-read (a .side) (now (a .numbers)) (a .place) (a .entry) _ (c .carried-info .ensures)
 
 pub carried-entry-spec : {M : Type 1} → statement M
-carried-entry-spec =
-    tie.close
-    (tie.spec
-    goal-place-requires
-    carried-info-requires
-    returns)
+carried-entry-spec = tie.close (tie.spec carried-info-requires returns)
