@@ -318,16 +318,18 @@ def glabel_jobs():
 
 
 def hash_jobs():
-    """names that agree in what an index of names may go by: lengths, sums in base 31, the first 256 bytes"""
-    alike = [x + y for x in (b'Aa', b'BB') for y in (b'Aa', b'BB')]
+    """names that agree in what an index of names may go by: lengths, sums of words of eight bytes, the first 2,048 bytes, all but one byte of a word"""
+    alike = [x + y for x, y in ((b'abcdefgh', b'ijklmnop'), (b'ijklmnop', b'abcdefgh'), (b'ibcdefgh', b'ajklmnop'), (b'ajklmnop', b'ibcdefgh'))]
     homes = [Sym(name, b'.data', k) for k, name in enumerate(alike)]
     lost = [y._replace(section=0, value=0) for y in homes]
     yield pair(c=homes[:2] + lost[2:], a=lost[:2] + homes[2:])
     yield pair(c=homes, a=[homes[3], homes[1]._replace(value=9), homes[0]])
     yield with_blocks([dict(text=b'_asmpp_t0 4 0', glabels=[alike[1], alike[0]])], a=[y._replace(section=b'.text') for y in homes])
-    long = [b'x' * 256 + tail for tail in (b'', b'a', b'b')]
-    yield pair(c=[Sym(name, value=4 * k) for k, name in enumerate(long)], a=[Sym(name, 0) for name in reversed(long)])
-    for length in (254, 255, 256):                                  # a count that ends, starts and stands behind those bytes
+    long = [b'x' * 2048 + tail for tail in (b'', b'a', b'b')]
+    ends = [b'x' * length + tail for length in range(26) for tail in (b'y', b'z')]
+    for names in (long, ends):
+        yield pair(c=[Sym(name, value=4 * k) for k, name in enumerate(names)], a=[Sym(name, 0) for name in reversed(names)])
+    for length in (2046, 2047, 2048):                                  # a count that ends, starts and stands behind those bytes
         name = b'y' * length
         entries = [statics_jobs.entry(statics_jobs.STATIC, statics_jobs.DATA, 0, 4 * k) for k in range(2)]
         yield with_statics(entries, c=[Sym(name + b':2', b'.data', 4)], a=[Sym(name + b':1', 0), Sym(name + b':3')], strings=name + b'\0', level=2)

@@ -29,7 +29,7 @@ pub enum Spelling {
     Equal,
     /// Each is the end of one string of about this length.
     Shared(usize),
-    /// All have one sum in base 31, by which an index of names may go.
+    /// The words of eight bytes of all have one sum, by which an index of names may go.
     OneSum,
 }
 
@@ -118,8 +118,11 @@ impl Spelling {
             Spelling::Equal => "one".into(),
             Spelling::Shared(length) => "x".repeat(length + names - k),
             Spelling::OneSum => {
-                let pairs = (0..12).map(|i| if k >> i & 1 == 0 { "Aa" } else { "BB" });
-                pairs.collect()
+                const TURNS: [&str; 6] = ["abc", "acb", "bac", "bca", "cab", "cba"];
+                let turns = (0..8).map(|i| TURNS[k / 6usize.pow(i) % 6]);
+                let turns: Vec<&[u8]> = turns.map(str::as_bytes).collect();
+                let bytes = (0..24).map(|i| char::from(turns[i % 8][i / 8]));
+                bytes.collect()
             }
         }
     }

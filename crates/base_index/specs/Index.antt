@@ -1,16 +1,17 @@
 -- Of the code, not of document 01: an index of items by a hash each, in one table. A bucket has the items whose hashes agree modulo the number of buckets, which is one of
 -- three by how many items there are, so that few items cost little; for each bucket the table has its first item, and for each item the next one of its bucket. Hashes decide no answer: they
 -- only say which items a search may pass over.
-use Prim.Native.Nat.{ℕ, _+_, _*_, _%_, _^_, _≤_, _<_}
+use Prim.Native.Nat.{ℕ, _+_, _-_, _*_, _/_, _%_, _^_, _≤_, _<_}
 use mathlib.Core.Path.{_≡_}
 use mathlib.Core.Bool.{Bool, cond}
-use mathlib.Core.List.{List, [], _∷_}
+use mathlib.Core.List.{List}
 use lib.ListN.{length, take}
 use lib.Dec.{eqb, ltb}
 use Rattle.base_lists.specs.Ranges.{first}
 use Rattle.base_lists.specs.Windows.{spliced}
 use Rattle.base_fields.specs.declared.ByteOrder.the-variants.{Big}
 use Rattle.base_fields.specs.Numbers.{number, encoded}
+use Rattle.base_names.specs.Words.{wordAt}
 
 -- the most buckets
 abbrev pub BUCKETS : ℕ
@@ -25,20 +26,25 @@ ITEM_LIMIT = 12288
 abbrev pub HASH_BYTES : ℕ
 HASH_BYTES = 2048
 
--- a hash with one more byte, and with a string behind it
-abbrev pub mixedByte : ℕ → ℕ → ℕ
-mixedByte h x = (h * 31 + x) % 2 ^ 16
+-- words are summed up by this number, which leaves 1 of 2 ^ 64
+abbrev pub ROUND : ℕ
+ROUND = 2 ^ 64 - 1
 
-unfoldable pub mixed : ℕ → List ℕ → ℕ
-mixed h [] = h
-mixed h (x ∷ s) = mixed (mixedByte h x) s
+-- the n bytes of s at a before a sum: their number, the first byte the lowest, with the sum above it
+unfoldable pub mixedAt : List ℕ → ℕ → ℕ → ℕ → ℕ
+mixedAt s a n h = (wordAt s a n + 256 ^ n * h) % ROUND
 
--- the hash of a string of n bytes before any of them: strings that share their first bytes may differ in length alone
-abbrev pub hashStart : ℕ → ℕ
-hashStart n = n % 2 ^ 16
+-- a string before a sum
+unfoldable pub mixed : List ℕ → ℕ → ℕ
+mixed s h = mixedAt s 0 (length s) h
 
+-- a sum as sixteen bits, in which all of its bits play a part
+unfoldable pub spread : ℕ → ℕ
+spread x = (x % 2 ^ 32 * 666958599 + x / 2 ^ 32 * 1988613485) / 2 ^ 24 % 2 ^ 16
+
+-- the hash of a string: of its first bytes, and of its length, since strings that share their first bytes may differ in it alone
 unfoldable pub hashOf : List ℕ → ℕ
-hashOf s = mixed (hashStart (length s)) (take HASH_BYTES s)
+hashOf s = (spread (mixed (take HASH_BYTES s) 0) + length s) % 2 ^ 16
 
 -- how many buckets n items have, a power of two, and the bucket of a hash among them
 unfoldable pub bucketsOf : ℕ → ℕ

@@ -2,12 +2,14 @@
 // a hash for each item, builds, and walks from `head_of` on by `next_of`; proofs/Index.antt has the laws of that walk. Definitions and layout: specs/Index.antt.
 ghost use mathlib.Core.Path.{_≡_};
 ghost use mathlib.Core.List.{_++_};
-ghost use Prim.Native.Nat.{min, _+_, _-_, _*_, _%_, _^_, _≤_, _<_};
+ghost use Prim.Native.Nat.{min, _+_, _-_, _*_, _/_, _%_, _^_, _≤_, _<_};
 ghost use lib.ListN.{length, take};
+ghost use Rattle.base_lists.specs.Strings.{nameAt};
 ghost use Rattle.base_lists.specs.Windows.{spliced};
 ghost use Rattle.base_fields.specs.declared.ByteOrder.the-variants.{Big};
 ghost use Rattle.base_fields.specs.Numbers.{encoded};
-ghost use Rattle.base_index.specs.Index.{BUCKETS, ITEM_LIMIT, HASH_BYTES, mixedByte, mixed, hashStart, hashOf, bucketsOf, bucketOf, hashPlace, nextPlace, headPlace, Room, hashIn, nextIn, headIn, Built, Emptied, linked};
+ghost use Rattle.base_names.specs.Words.{wordAt};
+ghost use Rattle.base_index.specs.Index.{BUCKETS, ITEM_LIMIT, HASH_BYTES, ROUND, mixed, spread, hashOf, bucketsOf, bucketOf, hashPlace, nextPlace, headPlace, Room, hashIn, nextIn, headIn, Built, Emptied, linked};
 use base_fields::ByteOrder;
 
 pub const BUCKETS: usize = 4096;
@@ -15,19 +17,94 @@ pub const BUCKETS: usize = 4096;
 // How many bytes of a string take part in its hash.
 pub const HASH_BYTES: usize = 2048;
 
-// A hash with one more byte.
-fn mix(h: u32, b: u8) -> u32
-    ensures { λ r. ⌜ r ≡ mixedByte h b ⌝ }
+// What words are summed up by.
+const ROUND: u64 = 18446744073709551615;
+
+// A sum of two words: what does not fit into a word comes back as 1.
+fn plus(a: u64, b: u64) -> u64
+    ensures { λ r. ⌜ r % ROUND ≡ (a + b) % ROUND ⌝ }
 {
-    ((h as u64 * 31 + b as u64) % 65536) as u32
+    let sum = std::num::wrapping_add_u64(a, b);
+    if sum < a {
+        return sum + 1;
+    }
+    sum
 }
 
-// A hash with four more bytes: one product behind the other would wait for each.
-fn mix_four(h: u32, a: u8, b: u8, c: u8, d: u8) -> u32
-    ensures { λ r. ⌜ r ≡ mixedByte (mixedByte (mixedByte (mixedByte h a) b) c) d ⌝ }
+// A sum n bytes further up: what does not fit into a word comes back below.
+fn turn(h: u64, n: usize) -> u64
+    requires { ⌜ n < 8 ⌝ }
+    ensures { λ r. ⌜ r % ROUND ≡ (256 ^ n * h) % ROUND ⌝ }
 {
-    let sum = h as u64 * 923521 + a as u64 * 29791 + b as u64 * 961 + c as u64 * 31 + d as u64;
-    (sum % 65536) as u32
+    (h << (8 * n)) + (h >> (56 - 8 * n) >> 8)
+}
+
+// Fewer than eight bytes, as the number that they make, before a sum.
+fn mix_part(part: u64, n: usize, h: u64) -> u64
+    requires { ⌜ n < 8 ⌝ }
+    ensures { λ r. ⌜ r % ROUND ≡ (part + 256 ^ n * h) % ROUND ⌝ }
+{
+    plus(part, turn(h, n))
+}
+
+// A byte before a sum.
+pub fn mix(b: u8, h: u64) -> u64
+    ensures { λ r. ⌜ r % ROUND ≡ (b + 256 * h) % ROUND ⌝ }
+{
+    mix_part(b as u64, 1, h)
+}
+
+// The number of a string of fewer than four bytes, byte by byte.
+fn part_by_bytes(s: &[u8]) -> u64
+    requires { ⌜ length (now s) < 4 ⌝ }
+    ensures { λ r. ⌜ r ≡ wordAt (now (s .entry)) 0 (length (now (s .entry))) ⌝ }
+{
+    let mut part: u64 = 0;
+    let mut i = s.len();
+    while 0 < i {
+        i -= 1;
+        part = part * 256 + s[i] as u64;
+    }
+    part
+}
+
+// The number of a string of four bytes or more, fewer than eight: its first four, and above them the others, the last ones of its last four.
+fn part_by_fours(s: &[u8]) -> u64
+    requires { ⌜ (4 ≤ length (now s)) × (length (now s) < 8) ⌝ }
+    ensures { λ r. ⌜ r ≡ wordAt (now (s .entry)) 0 (length (now (s .entry))) ⌝ }
+{
+    let n = s.len();
+    let first = base_fields::read32(ByteOrder::Little, s, 0) as u64;
+    let last = base_fields::read32(ByteOrder::Little, s, n - 4) as u64;
+    first + (last >> (8 * (8 - n))) * 4294967296
+}
+
+// The number of the bytes that words of eight leave of a string: the last ones of its last eight, where it has as many.
+fn last_part(s: &[u8]) -> u64
+    ensures { λ r. ⌜ r ≡ wordAt (now (s .entry)) (length (now (s .entry)) / 8 * 8) (length (now (s .entry)) % 8) ⌝ }
+{
+    let n = s.len();
+    if n < 4 {
+        return part_by_bytes(s);
+    }
+    if n < 8 {
+        return part_by_fours(s);
+    }
+    base_names::word_at(s, n - 8) >> (56 - 8 * (n % 8)) >> 8
+}
+
+// A string before a sum, from its last bytes to its first: a word more does not turn it.
+fn mix_string(s: &[u8], h: u64) -> u64
+    ensures { λ r. ⌜ r % ROUND ≡ mixed (now (s .entry)) h ⌝ }
+{
+    let n = s.len();
+    let mut g = mix_part(last_part(s), n % 8, h);
+    let mut i = n / 8 * 8;
+    while 0 < i {
+        i -= 8;
+        g = plus(base_names::word_at(s, i), g);
+    }
+    g
 }
 
 // The lesser of two lengths.
@@ -40,46 +117,33 @@ fn shorter(a: usize, b: usize) -> usize
     b
 }
 
-// A hash with the first `end` bytes of a string behind it, four at a time.
-fn hash_fours(h: u32, s: &[u8], end: usize) -> u32
-    requires { ⌜ (end % 4 ≡ 0) × (end ≤ length (now s)) ⌝ }
-    ensures { λ r. ⌜ r ≡ mixed h (take end (now (s .entry))) ⌝ }
-{
-    let mut g = h;
-    let mut i: usize = 0;
-    while i < end {
-        g = mix_four(g, s[i], s[i + 1], s[i + 2], s[i + 3]);
-        i += 4;
-    }
-    g
-}
-
-// A hash with the first `room` bytes of a string behind it: a string in parts is hashed part by part (proofs/Hashes.antt, `hash-parts`).
-pub fn hash_on(h: u32, s: &[u8], room: usize) -> u32
-    ensures { λ r. ⌜ r ≡ mixed h (take room (now (s .entry))) ⌝ }
+// The first `room` bytes of a string before a sum: a string in parts is hashed from its last part to its first (proofs/Hashes.antt, `hash-parts`).
+pub fn hash_before(s: &[u8], room: usize, h: u64) -> u64
+    ensures { λ r. ⌜ r % ROUND ≡ mixed (take room (now (s .entry))) h ⌝ }
 {
     let end = shorter(room, s.len());
-    let mut i = end / 4 * 4;
-    let mut g = hash_fours(h, s, i);
-    while i < end {
-        g = mix(g, s[i]);
-        i += 1;
-    }
-    g
+    mix_string(&s[0..end], h)
 }
 
-// The hash of a string of n bytes before any of them.
-pub fn hash_start(n: usize) -> u32
-    ensures { λ r. ⌜ r ≡ hashStart n ⌝ }
+// A sum as sixteen bits.
+fn spread(x: u64) -> u64
+    ensures { λ r. ⌜ r ≡ spread x ⌝ }
 {
-    (n % 65536) as u32
+    (x % 4294967296 * 666958599 + x / 4294967296 * 1988613485) / 16777216 % 65536
+}
+
+// The hash of a string of n bytes, of which the first ones are summed up.
+pub fn hash_end(h: u64, n: usize) -> u32
+    ensures { λ r. ⌜ r ≡ (spread (h % ROUND) + n) % 2 ^ 16 ⌝ }
+{
+    ((spread(h % ROUND) % 65536 + n as u64 % 65536) % 65536) as u32
 }
 
 // The hash of a string.
 pub fn hash_of(s: &[u8]) -> u32
     ensures { λ r. ⌜ r ≡ hashOf (now (s .entry)) ⌝ }
 {
-    hash_on(hash_start(s.len()), s, HASH_BYTES)
+    hash_end(hash_before(s, HASH_BYTES, 0), s.len())
 }
 
 // How many bytes of a string are hashed behind its first n.
@@ -96,9 +160,47 @@ pub fn room_behind(n: usize) -> usize
 pub fn hash_joined(front: &[u8], back: &[u8]) -> u32
     ensures { λ r. ⌜ r ≡ hashOf (now (front .entry) ++ now (back .entry)) ⌝ }
 {
-    let start = hash_start(front.len() + back.len());
-    let h = hash_on(start, front, HASH_BYTES);
-    hash_on(h, back, room_behind(front.len()))
+    let h = hash_before(back, room_behind(front.len()), 0);
+    hash_end(hash_before(front, HASH_BYTES, h), front.len() + back.len())
+}
+
+// The first n bytes of a word.
+fn low_part(word: u64, n: usize) -> u64
+    requires { ⌜ n < 8 ⌝ }
+    ensures { λ r. ⌜ r ≡ word % 256 ^ n ⌝ }
+{
+    let one: u64 = 1;
+    word & ((one << (8 * n)) - 1)
+}
+
+// The hash of the name at `at` of a table, whose end is looked for first.
+fn late_hash(t: &[u8], at: usize) -> u32
+    ensures { λ r. ⌜ r ≡ hashOf (nameAt (now (t .entry)) at) ⌝ }
+{
+    hash_of(base_names::name_at(t, at))
+}
+
+// The hash of the name at `at` of a table, whose end is looked for in the words that are hashed; a long name, or one near the end of the table, is looked for first.
+pub fn name_hash(t: &[u8], at: usize) -> u32
+    ensures { λ r. ⌜ r ≡ hashOf (nameAt (now (t .entry)) at) ⌝ }
+{
+    if at > t.len() {
+        return late_hash(t, at);
+    }
+    let room = shorter(HASH_BYTES, t.len() - at);
+    let mut sum: u64 = 0;
+    let mut i: usize = 0;
+    while 8 <= room - i {
+        let word = base_names::word_at(t, at + i);
+        let marks = base_names::byte_marks(word, 0);
+        if marks != 0 {
+            let n = base_names::first_mark(marks);
+            return hash_end(plus(sum, low_part(word, n)), i + n);
+        }
+        sum = plus(sum, word);
+        i += 8;
+    }
+    late_hash(t, at)
 }
 
 // How many buckets n items have.

@@ -40,7 +40,7 @@ fn has_zero(t: &[u8], at: usize, n: usize) -> bool
 }
 
 // The eight bytes at `at` as a number; the compiler makes one read of it.
-fn word_at(t: &[u8], at: usize) -> u64
+pub fn word_at(t: &[u8], at: usize) -> u64
     requires { ⌜ at + 8 ≤ length (now t) ⌝ }
     ensures { λ r. ⌜ r ≡ wordAt (now (t .entry)) at 8 ⌝ }
 {
@@ -50,7 +50,7 @@ fn word_at(t: &[u8], at: usize) -> u64
 }
 
 // A mark in each byte of a word that is the byte looked for.
-fn byte_marks(word: u64, byte: u8) -> u64
+pub fn byte_marks(word: u64, byte: u8) -> u64
     ensures { λ r. ⌜ r ≡ byteMarks byte 8 word ⌝ }
 {
     let x = word ^ (byte as u64 * 0x0101010101010101);
@@ -59,7 +59,7 @@ fn byte_marks(word: u64, byte: u8) -> u64
 }
 
 // Which byte of a word has the lowest mark; the word has one.
-fn first_mark(marks: u64) -> usize
+pub fn first_mark(marks: u64) -> usize
     ensures { λ r. ⌜ r ≡ trailingZeros 64 marks / 8 ⌝ }
 {
     (u64::trailing_zeros(marks) / 8) as usize

@@ -15,13 +15,21 @@ ghost use Rattle.elf_index.specs.Index.{SymbolIndex};
 use base_fields::ByteOrder;
 use elf_symbols::SymbolTable;
 
+// The hash of symbol k's name.
+fn name_hash(order: ByteOrder, file: &[u8], at: usize, strings: &[u8], k: usize) -> u32
+    requires { ⌜ Entries order (now file) at (now strings) × (k < symbolCount order (now file)) ⌝ }
+    ensures { λ r. ⌜ r ≡ hashOf (symbolName order (now (file .entry)) k) ⌝ }
+{
+    let s = elf_symbols::symbol_at(order, file, at, k);
+    base_index::name_hash(strings, s.st_name as usize)
+}
+
 // Puts the hash of symbol k's name.
 fn put_name(order: ByteOrder, file: &[u8], at: usize, strings: &[u8], k: usize, index: &mut [u8])
     requires { ⌜ Entries order (now file) at (now strings) × (k < symbolCount order (now file)) × (hashPlace k + 2 ≤ length (now index)) ⌝ }
     ensures { λ _. ⌜ now (index .exit) ≡ spliced (now (index .entry)) (hashPlace k) (encoded Big 2 (hashOf (symbolName order (now (file .entry)) k))) ⌝ }
 {
-    let name = elf_symbols::symbol_name(order, file, at, strings, k);
-    base_index::put_hash(index, k, base_index::hash_of(name));
+    base_index::put_hash(index, k, name_hash(order, file, at, strings, k));
 }
 
 // Makes the index of the symbols by the hashes of their names.

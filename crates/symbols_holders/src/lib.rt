@@ -5,13 +5,13 @@
 ghost use mathlib.Core.Path.{_≡_};
 ghost use mathlib.Core.Bool.{_&&_};
 ghost use mathlib.Core.List.{_++_};
-ghost use Prim.Native.Nat.{min, _+_, _*_, _≤_, _<_};
+ghost use Prim.Native.Nat.{min, _+_, _*_, _%_, _≤_, _<_};
 ghost use lib.ListN.{length, getD, take};
 ghost use lib.Dec.{leb, ltb};
 ghost use Rattle.base_lists.specs.Windows.{spliced};
 ghost use Rattle.base_fields.specs.declared.ByteOrder.the-variants.{Big};
 ghost use Rattle.base_fields.specs.Numbers.{encoded};
-ghost use Rattle.base_index.specs.Index.{mixedByte, mixed, hashOf, hashPlace, Room};
+ghost use Rattle.base_index.specs.Index.{ROUND, mixed, hashOf, hashPlace, Room};
 ghost use Rattle.base_scope.specs.Limits.{SYMBOL_LIMIT, STATIC_LIMIT, ID_LIMIT};
 ghost use Rattle.statics_table.specs.Statics.{countTail};
 ghost use Rattle.symbols_merge.specs.Listed.{holderOf};
@@ -20,15 +20,6 @@ ghost use Rattle.symbols_rows.specs.Rows.{halfIn};
 ghost use Rattle.symbols_holders.specs.Ready.{knownIn, KnownHashes, Hashed, ListIndexed, ListHeld, PositionHeld, alikeIn, idCount, idName, symbolsIn, HoldersReady, PositionReady, NamesHeld};
 use base_fields::ByteOrder;
 use symbols_names::Sources;
-
-// A hash with byte i of `:` and a count behind it.
-fn mix_tail(h: u32, number: u32, i: usize) -> u32
-    requires { ⌜ (number ≤ STATIC_LIMIT) × (i < length (countTail number)) ⌝ }
-    ensures { λ r. ⌜ r ≡ mixedByte h (getD (countTail number) i 0) ⌝ }
-{
-    let byte = [symbols_names::tail_byte(number, i)];
-    base_index::hash_on(h, &byte, 1)
-}
 
 // How many bytes of `:` and a count there is room for.
 fn tail_room(number: u32, room: usize) -> usize
@@ -42,31 +33,29 @@ fn tail_room(number: u32, room: usize) -> usize
     n
 }
 
-// A hash with the first `room` bytes of `:` and a count behind it.
-fn hash_tail(h: u32, number: u32, room: usize) -> u32
+// The sum of the first `room` bytes of `:` and a count, from the last one to the first.
+fn hash_tail(number: u32, room: usize) -> u64
     requires { ⌜ number ≤ STATIC_LIMIT ⌝ }
-    ensures { λ r. ⌜ r ≡ mixed h (take room (countTail number)) ⌝ }
+    ensures { λ r. ⌜ r % ROUND ≡ mixed (take room (countTail number)) 0 ⌝ }
 {
-    let end = tail_room(number, room);
-    let mut g = h;
-    let mut i: usize = 0;
-    while i < end {
-        g = mix_tail(g, number, i);
-        i += 1;
+    let mut i = tail_room(number, room);
+    let mut g: u64 = 0;
+    while 0 < i {
+        i -= 1;
+        g = base_index::mix(symbols_names::tail_byte(number, i), g);
     }
     g
 }
 
-// The hash of a stored name with the tail of its count: from the length of both, over the stored name, and over the tail as far as there is room.
+// The hash of a stored name with the tail of its count: the tail as far as there is room, the stored name before it, and the length of both.
 fn joined_hash(stored: &[u8], number: u32) -> u32
     requires { ⌜ number ≤ STATIC_LIMIT ⌝ }
     ensures { λ r. ⌜ r ≡ hashOf (now (stored .entry) ++ countTail number) ⌝ }
 {
     let tail = statics_table::tail_length(number) as usize;
-    let start = base_index::hash_start(stored.len() + tail);
-    let front = base_index::hash_on(start, stored, base_index::HASH_BYTES);
-    let room = base_index::room_behind(stored.len());
-    hash_tail(front, number, room)
+    let back = hash_tail(number, base_index::room_behind(stored.len()));
+    let whole = base_index::hash_before(stored, base_index::HASH_BYTES, back);
+    base_index::hash_end(whole, stored.len() + tail)
 }
 
 // Whether an id is that of one of A's symbols.

@@ -1,8 +1,8 @@
--- The hash put is that of the name in hand. Assumes nothing.
+-- The hash put is that of the name. Assumes nothing.
 use Rattle.base_lists.specs.Windows.{spliced}
 use Rattle.base_fields.specs.Numbers.{encoded}
 use Rattle.base_fields.specs.declared.ByteOrder.the-variants.{Big}
-use Rattle.base_index.specs.Index.{hashPlace, hashOf}
+use Rattle.base_index.specs.Index.{hashPlace}
 use Rattle.base_index.proofs.Hashes.{hash-low}
 use Prim.Native.Nat.{ℕ}
 use mathlib.Core.Path.{ap, _∙_}
@@ -11,25 +11,19 @@ use borrow.Author.Needs.{needs}
 use Rattle.elf_index.proofs.put_name.Statement.{statement}
 use Rattle.elf_index.proofs.put_name.Tie as tie
 
-symbol-name-requires : tie.Need-symbol-name-requires
-symbol-name-requires c κs = search needs
-
-hash-of-requires : tie.Need-hash-of-requires
-hash-of-requires c κs = search needs
+name-hash-requires : tie.Need-name-hash-requires
+name-hash-requires c κs = search needs
 
 put-hash-requires : tie.Need-put-hash-requires
-put-hash-requires c κs = (search needs, rw (c .hash-of .ensures) (hash-low _))
+put-hash-requires c κs = (search needs, rw (c .name-hash .ensures) (hash-low _))
 
 same-length : tie.Need-same-length
 same-length c = search needs
 
 returns : tie.Need-returns
 returns c =
-    let a = c .before .before .before .before .before .before .before .before .before .args in
-    c .before .before .put-hash .ensures
-    ∙ ap (λ (h : ℕ). spliced (now (a .index)) (hashPlace (a .k)) (encoded Big 2 h)) (c .before .before .before .hash-of .ensures ∙ ap hashOf (c .before .before .before .before .before .symbol-name .ensures))
+    let a = c .before .before .before .before .before .before .before .before .args in
+    c .before .before .put-hash .ensures ∙ ap (λ (h : ℕ). spliced (now (a .index)) (hashPlace (a .k)) (encoded Big 2 h)) (c .before .before .before .name-hash .ensures)
 
 pub put-name-spec : {M : Type 1} → statement M
-put-name-spec =
-    tie.close
-    (tie.spec symbol-name-requires hash-of-requires put-hash-requires same-length returns)
+put-name-spec = tie.close (tie.spec name-hash-requires put-hash-requires same-length returns)

@@ -1,4 +1,4 @@
--- The stored name goes behind the length of both, the tail behind the stored name. Assumes nothing.
+-- The tail is hashed first, then the stored name before it. Assumes nothing.
 use denote.Ref.{now}
 use borrow.Author.Needs.{needs}
 use Rattle.statics_table.specs.Statics.{countTail}
@@ -12,40 +12,31 @@ tail-length-requires c κs = search needs
 cast-tail : tie.Need-cast-tail
 cast-tail c = search needs
 
-add-hash-start : tie.Need-add-hash-start
-add-hash-start c = search needs
-
-hash-start-requires : tie.Need-hash-start-requires
-hash-start-requires c κs = search needs
-
-hash-on-requires : tie.Need-hash-on-requires
-hash-on-requires c κs = search needs
-
 room-behind-requires : tie.Need-room-behind-requires
 room-behind-requires c κs = search needs
 
 hash-tail-requires : tie.Need-hash-tail-requires
 hash-tail-requires c κs = search needs
 
+hash-before-requires : tie.Need-hash-before-requires
+hash-before-requires c κs = search needs
+
+add-hash-end : tie.Need-add-hash-end
+add-hash-end c = search needs
+
+hash-end-requires : tie.Need-hash-end-requires
+hash-end-requires c κs = search needs
+
 returns : tie.Need-returns
 returns c =
     let a = c .before .before .before .before .before .before .args in
     hash-joined _ _ _ _ _ (now (a .stored)) (countTail (a .number))
-    (c .hash-tail .ensures)
-    (c .before .before .hash-on .ensures)
-    (c .before .before .before .hash-start .ensures)
+    (c .hash-end .ensures)
+    (c .before .hash-before .ensures)
+    (c .before .before .hash-tail .ensures)
     (c .before .before .before .before .tail-length .ensures .0)
-    (c .before .room-behind .ensures)
+    (c .before .before .before .room-behind .ensures)
 
 pub joined-hash-spec : {M : Type 1} → statement M
 joined-hash-spec =
-    tie.close
-    (tie.spec
-    tail-length-requires
-    cast-tail
-    add-hash-start
-    hash-start-requires
-    hash-on-requires
-    room-behind-requires
-    hash-tail-requires
-    returns)
+    tie.close (tie.spec tail-length-requires cast-tail room-behind-requires hash-tail-requires hash-before-requires add-hash-end hash-end-requires returns)
