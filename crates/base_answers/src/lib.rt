@@ -1,5 +1,7 @@
 // What a call gives back, as a struct of numbers that crosses to C and Rust by value. Document 01's numbers, objects and places come from the
 // definition `outcome_of` in specs/.
+#![tactic(auto)]
+
 ghost use Rattle.std.specs.Prelude.{◌≡◌};
 ghost use Rattle.base_answers.specs.Answers.{refused, length_outcome, outcome_of};
 ghost use Rattle.base_answers.specs.Verdicts.{finding_verdict};
@@ -8,7 +10,7 @@ use base_scope::Finding;
 
 // Accepted: number, object and place are 0. Refused: the length is 0.
 #[repr(C)]
-#[derive(Drop)]
+#[derive(Clone, Copy)]
 pub struct Outcome {
     pub length: u64,
     pub number: u32,
@@ -23,7 +25,7 @@ pub const COMPILED: u32 = 1;
 pub const ASSEMBLED: u32 = 2;
 
 // What the tests of a call come to: passed, or the number, object and place of the first that refuses.
-#[derive(Drop)]
+#[derive(Clone, Copy)]
 pub enum Verdict {
     Passed,
     Refused(u32, u32, u64),

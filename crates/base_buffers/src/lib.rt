@@ -1,4 +1,6 @@
 // Buffers that are lent to a call: they are zeroed, whole or from a place on, and hold tables one behind the other.
+#![tactic(auto)]
+
 ghost use Rattle.std.specs.Prelude.{◌≡◌, false, ℕ, ◌+◌, ◌≤◌, ◌<◌, length, get_or};
 ghost use Rattle.base_lists.specs.Windows.{spliced};
 ghost use Rattle.base_buffers.specs.Buffers.{zeros, zeroed_from};

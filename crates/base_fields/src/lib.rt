@@ -1,12 +1,14 @@
 // Fields of 8, 16, 24 and 32 bits in a byte slice: read and written, in a byte order that is a parameter. Each equals `number` or `encoded` of
 // specs/Numbers.antt; a write leaves every byte outside its field as it was.
+#![tactic(auto)]
+
 ghost use Rattle.std.specs.Prelude.{◌≡◌, [], ◌∷◌, ℕ, ◌+◌, ◌*◌, ◌≤◌, ◌<◌, length, get_or};
 ghost use Rattle.base_lists.specs.Windows.{spliced};
 ghost use Rattle.base_lists.specs.Records.{flat};
 ghost use Rattle.base_fields.specs.Numbers.{number, encoded};
 
 // EI_DATA of an object: ELFDATA2MSB (2) or ELFDATA2LSB (1). Document 01 accepts only the first.
-#[derive(Drop)]
+#[derive(Clone, Copy)]
 pub enum ByteOrder {
     Big,
     Little,

@@ -1,5 +1,7 @@
 // An index of items by a hash each, in a lent table: the first item that passes a test which implies a hash is found among the few of the hash's bucket. A caller puts
 // a hash for each item, builds, and walks from `head_of` on by `next_of`; proofs/Index.antt has the laws of that walk. Definitions and layout: specs/Index.antt.
+#![tactic(auto)]
+
 ghost use Rattle.std.specs.Prelude.{◌≡◌, ◌+◌, ◌-◌, ◌*◌, ◌/◌, ◌%◌, ◌^◌, ◌<◌, ◌≤◌, min, ◌++◌, length, take};
 ghost use Rattle.base_lists.specs.Strings.{name_at};
 ghost use Rattle.base_lists.specs.Windows.{spliced};

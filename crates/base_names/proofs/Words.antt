@@ -11,7 +11,7 @@ use lib.ListN.{length, get_or}
 use lib.Dec.{eqb}
 use lib.Bits.{bit_and, bit_or, bit_xor, and_block, or_block, xor_block, and_le_l, and_le_r, or_lt, xor_lt, xor_self, xor_add_and, shifted_even, shifted_half}
 use lib.Count.{count_trailing_zeros, under}
-use borrow.Author.Tests.{eqb-true, eqb-false, eq-eqb, ne_eqb, not_false}
+use borrow.Author.Tests.{eqb-true, eqb-false, eq-eqb, ne_eqb, not-false}
 use Rattle.base_lists.specs.Ranges.{first_from}
 use Rattle.base_lists.specs.Strings.{zero_at, name_end}
 use Rattle.base_lists.proofs.Ranges.{by-test, none_first, first_here, first_next, first_end}
@@ -65,7 +65,7 @@ zero_mark : (y : ℕ) → y < 256 → zero_marks 1 y ≡ cond (eqb y 0) 128 0
 unfolding zero_marks bytes_of first_from
 zero_mark y s =
     let p : ℕ → Bool = λ i. eqb (zero_marks 1 i) (cond (eqb i 0) 128 0) in
-    eqb-true _ _ (not_false (p y) (none_first (λ i. not (p i)) 0 256 y refl (omega arith) s))
+    eqb-true _ _ (not-false (p y) (none_first (λ i. not (p i)) 0 256 y refl (omega arith) s))
 
 -- only equal numbers differ in no digit
 xor_none : (r x : ℕ) → eqb (bit_xor r x) 0 ≡ eqb r x

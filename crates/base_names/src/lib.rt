@@ -1,6 +1,8 @@
 // Byte strings and the names of string tables: where a byte stands first, where a name ends, the name as a part of its table, and comparisons. Each equals its
 // definition, here in specs/ or in the crate base_lists, specs/Strings.antt: comparisons are equations of lists, so a zero byte in a compared string is a byte like
 // any other.
+#![tactic(auto)]
+
 ghost use Rattle.std.specs.Prelude.{◌≡◌, not, ◌&&◌, ◌++◌, ◌+◌, ◌/◌, ◌≤◌, length, take, drop, eqb, ltb};
 ghost use Rattle.std.specs.Int.Count.{count_trailing_zeros};
 ghost use Rattle.base_lists.specs.Ranges.{past_last};
@@ -12,7 +14,7 @@ ghost use Rattle.base_names.specs.Words.{first_byte, word_at, byte_marks};
 use base_fields::ByteOrder;
 
 // The object that a name comes from.
-#[derive(Drop)]
+#[derive(Clone, Copy)]
 pub enum Owner {
     Compiled,
     Assembled,

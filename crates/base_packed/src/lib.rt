@@ -1,18 +1,20 @@
 // What shares a word: r_info, st_info and st_other, taken apart by shift and mask and joined again; the three kinds of symbol index; the
 // shift of a debug offset. Each equals its line of specs/Packed.antt.
+#![tactic(auto)]
+
 ghost use Rattle.std.specs.Prelude.{◌≡◌, ◌^◌, ◌<◌};
 ghost use Rattle.base_packed.specs.Packed.{symbol_of, kind_of, relocation_info, binding_of, type_of, symbol_info, visibility_of, shifted};
 
 // An index into the compiled object's symbol table.
-#[derive(Drop)]
+#[derive(Clone, Copy)]
 pub struct CompiledSymbol(pub u32);
 
 // An index into the assembled object's symbol table.
-#[derive(Drop)]
+#[derive(Clone, Copy)]
 pub struct AssembledSymbol(pub u32);
 
 // An index into the merged symbol table: the only kind that an r_info is joined from.
-#[derive(Drop)]
+#[derive(Clone, Copy)]
 pub struct MergedSymbol(pub u32);
 
 // The symbol of an r_info: what stands above bit 8.

@@ -10,7 +10,7 @@ use borrow.Author.Tests.{ne_eqb}
 use Rattle.base_lists.specs.Strings.{same}
 use Rattle.base_scope.specs.Text.{text}
 use Rattle.base_scope.specs.Elf.{SHT_NULL}
-use Rattle.base_scope.specs.Codes.{Coded, section_codes, code_name, code_type, holds_bytes, leaves_out, is_late_target, CODES, TEXT, DATA, RODATA, BSS, LATE-RODATA_lem, REGINFO, LATE_TARGET}
+use Rattle.base_scope.specs.Codes.{Coded, section_codes, code_name, code_type, holds_bytes, leaves_out, is_late_target, CODES, TEXT, DATA, RODATA, BSS, LATE_RODATA, REGINFO, LATE_TARGET}
 
 -- the row of what is no code
 abbrev none : Coded
@@ -76,7 +76,7 @@ code_of_lem name =
     (cond (same name (text ".data")) DATA
     (cond (same name (text ".rodata")) RODATA
     (cond (same name (text ".bss")) BSS
-    (cond (same name (text ".late_rodata")) LATE-RODATA_lem
+    (cond (same name (text ".late_rodata")) LATE_RODATA
     (cond (same name (text ".reginfo")) REGINFO 0)))))
 
 name_code : (c : ℕ) → 1 ≤ c → c ≤ CODES → code_of_lem (code_name c) ≡ c

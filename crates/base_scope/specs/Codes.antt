@@ -33,7 +33,7 @@ section_codes =
     ∷ coded (text ".reginfo") SHT_MIPS_REGINFO true false false
     ∷ []
 
--- the codes by name (LATE_RODATA in the code: here an underscore would make RODATA a part of it)
+-- the codes by name
 abbrev pub TEXT : ℕ
 TEXT = 1
 
@@ -46,8 +46,8 @@ RODATA = 3
 abbrev pub BSS : ℕ
 BSS = 4
 
-abbrev pub LATE-RODATA_lem : ℕ
-LATE-RODATA_lem = 5
+abbrev pub LATE_RODATA : ℕ
+LATE_RODATA = 5
 
 abbrev pub REGINFO : ℕ
 REGINFO = 6
@@ -77,7 +77,7 @@ is_late_target c = (get_or section_codes c no_code).late
 
 -- where the bytes of A's section of code a go in C
 unfoldable pub target_code : ℕ → ℕ
-target_code a = cond (eqb a LATE-RODATA_lem) LATE_TARGET a
+target_code a = cond (eqb a LATE_RODATA) LATE_TARGET a
 
 -- A block has a line for each of the codes 1 to LINES, in this order. The lines of all blocks are counted in one row: the code and the block of line j, the line
 -- of a code in block i, and the first line of block i.

@@ -1,5 +1,7 @@
 // What document 01 fixes once: limits, section codes, refusal numbers, the gABI's constants, and what a test finds. The definitions in
 // specs/ have the same names; a contract that cites one holds the constant here to it.
+#![tactic(auto)]
+
 ghost use Rattle.std.specs.Prelude.{◌≡◌, ◌&&◌, ◌*◌, ◌≤◌, ◌<◌};
 ghost use Rattle.base_scope.specs.Codes.{code_type, holds_bytes, leaves_out, is_late_target, target_code, line_code, line_block, line_of, LINES};
 ghost use Rattle.base_scope.specs.Limits.{BLOCK_LIMIT};
@@ -182,7 +184,7 @@ pub const NAME_TWICE: u32 = 19;
 pub const OUTPUT_ROOM: u32 = 21;
 
 // What the test of a refusal number finds: nothing at fault, or the place that is reported.
-#[derive(Drop)]
+#[derive(Clone, Copy)]
 pub enum Finding {
     Clear,
     At(usize),

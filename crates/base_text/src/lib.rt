@@ -1,5 +1,7 @@
 // Text, appended to the output at a place that is a 64-bit number: bytes, lines, decimal numbers. A text that no longer fits is counted and not written. Every
 // function says `Written` of what it appends (the crate base_lists, specs/Written.antt), and asks only that it ends below 2 ^ 64, so that no sum wraps.
+#![tactic(auto)]
+
 ghost use Rattle.std.specs.Prelude.{◌≡◌, ◌+◌, ◌≤◌, ◌<◌, length, drop};
 ghost use Rattle.base_lists.specs.Written.{Written};
 ghost use Rattle.base_text.specs.Lines.{lined};

@@ -8,7 +8,7 @@ use native.Mathlib.Numerals.{add-one}
 use native.Mathlib.Omega.{arith}
 use lib.ListN.{length}
 use lib.Dec.{ltb, leb}
-use borrow.Author.Tests.{lt-ltb, le-leb, lt-leb, eq-eqb, ne_eqb, ltb-false, leb-true, leb-false, not_false}
+use borrow.Author.Tests.{lt-ltb, le-leb, lt-leb, eq-eqb, ne_eqb, ltb-false, leb-true, leb-false, not-false}
 use Rattle.base_lists.specs.Ranges.{first}
 use Rattle.base_lists.proofs.Ranges.{by-test, by-lt, first_is, first_high, first_here, first_next, or_parts}
 use Rattle.base_scope.specs.declared.Finding.TheVariants.{Clear, At}
@@ -197,7 +197,7 @@ module _ (B : List ℕ) where
   group_sound a k h f =
       let t : is_faulty B a k ≡ false = (first_is (is_faulty B a) 0 KEYS (omega arith)).below k (omega arith) h in
       let u : not (is_key_line B k (group_at B a k)) ≡ false = rw f at t in
-      not_false _ u
+      not-false _ u
 
   -- so those groups, and the one behind them, start in the file or at its end
   pub group_inside : (a k : ℕ) → a ≤ length B → k ≤ faulty_group B a → group_at B a k ≤ length B

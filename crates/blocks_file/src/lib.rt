@@ -1,4 +1,6 @@
 // The blocks of a block file: refusal 7, and the table of where each block's groups of lines start. Each function equals its definition in specs/.
+#![tactic(auto)]
+
 ghost use Rattle.std.specs.Prelude.{◌≡◌, ◌+◌, ◌*◌, ◌≤◌, ◌<◌, length};
 ghost use Rattle.base_scope.specs.Limits.{FILE_LIMIT, BLOCK_LIMIT, BLOCK_ROW, BLOCK_TABLE};
 ghost use Rattle.blocks_lines.specs.Keys.{KEYS};
@@ -39,7 +41,7 @@ fn group_after(file: &[u8], k: u32, at: usize) -> usize
 }
 
 // Where the groups of a block start, up to the first that is faulty, and which that is: GROUPS where none is.
-#[derive(Drop)]
+#[derive(Clone, Copy)]
 struct BlockStarts {
     starts: [u32; 12],
     faulty: usize,
@@ -73,7 +75,7 @@ fn read_groups(file: &[u8], at: usize) -> BlockStarts
 }
 
 // What a block file was found to be: its fault, if any, and how many blocks stand before it.
-#[derive(Drop)]
+#[derive(Clone, Copy)]
 pub struct BlockFile {
     pub fault: Finding,
     pub count: usize,

@@ -5,7 +5,7 @@ use Rattle.base_lists.specs.Ranges.{past_last}
 use Rattle.base_lists.specs.Rows.{has_row}
 use Rattle.base_lists.specs.Strings.{same}
 use Rattle.base_scope.specs.Codes.{TEXT, line_of}
-use Rattle.blocks_lines.specs.Keys.{KEY-GLABEL_lem, value_at}
+use Rattle.blocks_lines.specs.Keys.{KEY_GLABEL, value_at}
 use Rattle.blocks_file.specs.Blocks.{group_size, line_behind, group_at, block_at, block_count}
 use Rattle.blocks_places.specs.Lines.{span_size}
 use Rattle.blocks_places.specs.Places.{Place, live}
@@ -14,11 +14,11 @@ use Rattle.blocks_items.specs.Items.{sized}
 module _ (B : List ℕ) where
   -- how many glabels block i has: the lines of its group `glabel=`
   unfoldable pub glabel_count : ℕ → ℕ
-  glabel_count i = group_size B KEY-GLABEL_lem (group_at B (block_at B i) KEY-GLABEL_lem)
+  glabel_count i = group_size B KEY_GLABEL (group_at B (block_at B i) KEY_GLABEL)
 
   -- glabel k of block i
   unfoldable pub glabel : ℕ → ℕ → List ℕ
-  glabel i k = value_at B KEY-GLABEL_lem (line_behind B (group_at B (block_at B i) KEY-GLABEL_lem) k)
+  glabel i k = value_at B KEY_GLABEL (line_behind B (group_at B (block_at B i) KEY_GLABEL) k)
 
 module _ (P : List Place) (B : List ℕ) (name : List ℕ) where
   -- a name is a glabel where a block that stays on has it

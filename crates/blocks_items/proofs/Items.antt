@@ -16,7 +16,7 @@ use Rattle.base_scope.specs.Limits.{NUMBER_LIMIT}
 use Rattle.base_scope.specs.Codes.{TEXT, line_of}
 use Rattle.base_text.specs.Decimals.{decimal}
 use Rattle.blocks_values.specs.Values.{every, is_digit, is_hex_digit, dummy_sound}
-use Rattle.blocks_lines.specs.Keys.{KEY-GLABEL_lem, KEY-DUMMY_lem, KEY-JTBL_lem, keys, repeats, value_sound, is_key_line, value_at}
+use Rattle.blocks_lines.specs.Keys.{KEY_GLABEL, KEY_DUMMY, KEY_JTBL, keys, repeats, value_sound, is_key_line, value_at}
 use Rattle.blocks_values.proofs.Values.{every_true, digit_range, hex_letter, number_digits, digits_few, sound_number, sound_decimal}
 use Rattle.blocks_lines.proofs.Keys.{key_line_sound}
 use Rattle.blocks_file.specs.Blocks.{group_at, block_at, block_count}
@@ -82,19 +82,19 @@ module _ (v : List ℕ) (t : dummy_sound v ≡ true) where
 -- ---- dummies, jump tables, sizes of first glabels
 
 module _ (B : List ℕ) where
-  value_dummy : (v : List ℕ) → value_sound KEY-DUMMY_lem v ≡ dummy_sound v
+  value_dummy : (v : List ℕ) → value_sound KEY_DUMMY v ≡ dummy_sound v
   unfolding value_sound keys
   value_dummy v = refl
 
-  pub dummy_sound_lem : (a : ℕ) (v : List ℕ) → v ≡ value_at B KEY-DUMMY_lem a → is_key_line B KEY-DUMMY_lem a ≡ true → dummy_sound v ≡ true
-  dummy_sound_lem a v e t = rw e (sym (value_dummy (value_at B KEY-DUMMY_lem a)) ∙ key_line_sound B KEY-DUMMY_lem a t)
+  pub dummy_sound_lem : (a : ℕ) (v : List ℕ) → v ≡ value_at B KEY_DUMMY a → is_key_line B KEY_DUMMY a ≡ true → dummy_sound v ≡ true
+  dummy_sound_lem a v e t = rw e (sym (value_dummy (value_at B KEY_DUMMY a)) ∙ key_line_sound B KEY_DUMMY a t)
 
   module _ (i : ℕ) (h : i < block_count B) where
-    pub jump_line : (a : ℕ) → a ≡ group_at B (block_at B i) KEY-JTBL_lem → is_key_line B KEY-JTBL_lem a ≡ true
+    pub jump_line : (a : ℕ) → a ≡ group_at B (block_at B i) KEY_JTBL → is_key_line B KEY_JTBL a ≡ true
     unfolding repeats keys
-    jump_line a e = rw e (counted_key B i KEY-JTBL_lem h (omega arith) refl)
+    jump_line a e = rw e (counted_key B i KEY_JTBL h (omega arith) refl)
 
-    module _ (a : ℕ) (v : List ℕ) (e : a ≡ group_at B (block_at B i) KEY-JTBL_lem) (f : v ≡ value_at B KEY-JTBL_lem a) where
+    module _ (a : ℕ) (v : List ℕ) (e : a ≡ group_at B (block_at B i) KEY_JTBL) (f : v ≡ value_at B KEY_JTBL a) where
       pub jump_digits : (length v ≤ 7) × (every is_digit v ≡ true)
       jump_digits =
           let s = counted_jumps B i h in
@@ -105,11 +105,11 @@ module _ (B : List ℕ) where
       pub jump_read : (r : ℕ) → r ≡ decimal v → (r ≡ jump_table B i) × (r ≤ NUMBER_LIMIT)
       unfolding jump_table
       jump_read r q =
-          let x : r ≡ decimal (value_at B KEY-JTBL_lem (group_at B (block_at B i) KEY-JTBL_lem)) = rw (← e, ← f) q in
+          let x : r ≡ decimal (value_at B KEY_JTBL (group_at B (block_at B i) KEY_JTBL)) = rw (← e, ← f) q in
           (x, rw x (sound_decimal NUMBER_LIMIT _ (counted_jumps B i h)))
 
 module _ (P : List Place) (B : List ℕ) (i : ℕ) where
-  pub sized_taken : (a : ℕ) (r : Bool) → taken P (line_of i TEXT) ≡ true → a ≡ group_at B (block_at B i) KEY-GLABEL_lem → r ≡ is_key_line B KEY-GLABEL_lem a → r ≡ sized P B i
+  pub sized_taken : (a : ℕ) (r : Bool) → taken P (line_of i TEXT) ≡ true → a ≡ group_at B (block_at B i) KEY_GLABEL → r ≡ is_key_line B KEY_GLABEL a → r ≡ sized P B i
   unfolding sized
   sized_taken a r t e f = rw (t, ← e) f
 

@@ -4,7 +4,7 @@ use Rattle.base_lists.specs.Ranges.{sum}
 use Rattle.base_scope.specs.Codes.{TEXT, line_of}
 use Rattle.base_text.specs.Decimals.{decimal}
 use Rattle.blocks_values.specs.Values.{is_digit}
-use Rattle.blocks_lines.specs.Keys.{KEY-GLABEL_lem, KEY-DUMMY_lem, KEY-JTBL_lem, is_key_line, value_at}
+use Rattle.blocks_lines.specs.Keys.{KEY_GLABEL, KEY_DUMMY, KEY_JTBL, is_key_line, value_at}
 use Rattle.blocks_file.specs.Blocks.{group_size, line_behind, group_at, block_at, block_count}
 use Rattle.blocks_places.specs.Places.{Place, taken, live}
 
@@ -23,23 +23,23 @@ hexadecimal v = hex_from 0 v
 module _ (B : List ℕ) where
   -- how many dummies block i has: the lines of its group `dummy=`
   unfoldable pub dummy_count : ℕ → ℕ
-  dummy_count i = group_size B KEY-DUMMY_lem (group_at B (block_at B i) KEY-DUMMY_lem)
+  dummy_count i = group_size B KEY_DUMMY (group_at B (block_at B i) KEY_DUMMY)
 
   -- the line of dummy k of block i, and its word
   unfoldable pub dummy_line : ℕ → ℕ → ℕ
-  dummy_line i k = line_behind B (group_at B (block_at B i) KEY-DUMMY_lem) k
+  dummy_line i k = line_behind B (group_at B (block_at B i) KEY_DUMMY) k
 
   unfoldable pub dummy_word : ℕ → ℕ → ℕ
-  dummy_word i k = hexadecimal (value_at B KEY-DUMMY_lem (dummy_line i k))
+  dummy_word i k = hexadecimal (value_at B KEY_DUMMY (dummy_line i k))
 
   -- the bytes of block i's jump table
   unfoldable pub jump_table : ℕ → ℕ
-  jump_table i = decimal (value_at B KEY-JTBL_lem (group_at B (block_at B i) KEY-JTBL_lem))
+  jump_table i = decimal (value_at B KEY_JTBL (group_at B (block_at B i) KEY_JTBL))
 
 module _ (P : List Place) (B : List ℕ) where
   -- block i gives its first glabel the size of its span in .text: also where a later label switches it off
   unfoldable pub sized : ℕ → Bool
-  sized i = taken P (line_of i TEXT) && is_key_line B KEY-GLABEL_lem (group_at B (block_at B i) KEY-GLABEL_lem)
+  sized i = taken P (line_of i TEXT) && is_key_line B KEY_GLABEL (group_at B (block_at B i) KEY_GLABEL)
 
   -- the bytes of block i in A's late span: four for each dummy, and its jump table; none where the block is switched off
   unfoldable pub late_bytes : ℕ → ℕ

@@ -1,10 +1,12 @@
 // What the merge reads of a block beside its spans: its dummies, its jump table, and whether its first glabel has a size. Each function equals its definition in
 // specs/. The lines of one key stand together, so the glabels of a block are read from `blocks_file::group_start` on, line by line, while `blocks_lines::is_key_line`
 // holds; its dummies are numbered, for their lines have one length.
+#![tactic(auto)]
+
 ghost use Rattle.std.specs.Prelude.{◌≡◌, true, ◌+◌, ◌*◌, ◌≤◌, ◌<◌, length};
 ghost use Rattle.base_scope.specs.Limits.{NUMBER_LIMIT, BLOCK_LIMIT, BLOCK_ROW, PLACE_ROW};
 ghost use Rattle.blocks_values.specs.Values.{is_hex_digit, dummy_sound};
-ghost use Rattle.blocks_lines.specs.Keys.{KEY-DUMMY, KEY-JTBL};
+ghost use Rattle.blocks_lines.specs.Keys.{KEY_DUMMY, KEY_JTBL};
 ghost use Rattle.blocks_file.specs.Blocks.{block_count};
 ghost use Rattle.blocks_file.specs.Table.{group_in, Parsed};
 ghost use Rattle.blocks_places.specs.Lines.{line_count};
@@ -39,7 +41,7 @@ fn hex_of(v: &[u8]) -> u32
 
 // How many dummies the block of row i has.
 pub fn dummy_count(table: &[u8], i: usize) -> usize
-    requires { (BLOCK_ROW * i + BLOCK_ROW ≤ length table.now) × (i < BLOCK_LIMIT) × (group_in table.now i KEY-DUMMY ≤ group_in table.now i KEY-JTBL) }
+    requires { (BLOCK_ROW * i + BLOCK_ROW ≤ length table.now) × (i < BLOCK_LIMIT) × (group_in table.now i KEY_DUMMY ≤ group_in table.now i KEY_JTBL) }
     ensures { result ≡ dummies_in table.now i }
 {
     let start = blocks_file::group_start(table, i, blocks_lines::KEY_DUMMY as usize);

@@ -8,7 +8,7 @@ use native.Mathlib.Omega.{arith}
 use lib.ListN.{length, take, drop, get_or, length-append, length-take, length-drop, get_or-append}
 use lib.Seq.{take-append-le, take-take, drop-drop, get_or-drop}
 use lib.Dec.{eqb, leb}
-use borrow.Author.Tests.{eqb-true, leb-true, not_false}
+use borrow.Author.Tests.{eqb-true, leb-true, not-false}
 use Rattle.base_lists.specs.Ranges.{first_from, first}
 use Rattle.base_lists.specs.Strings.{same, prefixed}
 use Rattle.base_lists.proofs.Ranges.{and_parts, both, by-test, by-lt, by_last, none_first, first_over}
@@ -22,7 +22,7 @@ use Rattle.blocks_lines.proofs.Lines.{end_low, le_whole}
 
 -- a test that a search over [a, b) found to hold everywhere
 all_pass : (p : ℕ → Bool) (a b k : ℕ) → first (λ i. not (p i)) a b ≡ b → a ≤ k → k < b → p k ≡ true
-all_pass p a b k e l u = not_false (p k) (none_first (λ i. not (p i)) a b k e l u)
+all_pass p a b k e l u = not-false (p k) (none_first (λ i. not (p i)) a b k e l u)
 
 -- ---- ranges of the table
 

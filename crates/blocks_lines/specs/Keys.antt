@@ -35,20 +35,20 @@ keys =
 abbrev pub KEYS : ℕ
 KEYS = 11
 
-abbrev pub KEY-GLABEL_lem : ℕ
-KEY-GLABEL_lem = 5
+abbrev pub KEY_GLABEL : ℕ
+KEY_GLABEL = 5
 
-abbrev pub KEY-DUMMY_lem : ℕ
-KEY-DUMMY_lem = 6
+abbrev pub KEY_DUMMY : ℕ
+KEY_DUMMY = 6
 
-abbrev pub KEY-JTBL_lem : ℕ
-KEY-JTBL_lem = 7
+abbrev pub KEY_JTBL : ℕ
+KEY_JTBL = 7
 
-abbrev pub KEY-ASM_lem : ℕ
-KEY-ASM_lem = 8
+abbrev pub KEY_ASM : ℕ
+KEY_ASM = 8
 
-abbrev pub KEY-LATE_lem : ℕ
-KEY-LATE_lem = 9
+abbrev pub KEY_LATE : ℕ
+KEY_LATE = 9
 
 abbrev none : Key
 none = one [] any_sound

@@ -1,4 +1,6 @@
 // The lines of a block file: where they end, what their keys are and which value may stand behind each. Every function equals its definition in specs/.
+#![tactic(auto)]
+
 ghost use Rattle.std.specs.Prelude.{◌≡◌, true, ◌≤◌, ◌<◌, length};
 ghost use Rattle.base_lists.specs.Strings.{prefixed};
 ghost use Rattle.blocks_lines.specs.Lines.{line_end, line, line_number};

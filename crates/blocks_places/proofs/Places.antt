@@ -2,7 +2,7 @@
 -- once 8 has passed. Assumes nothing.
 use Prim.Native.Nat.{ℕ, zero, suc, ◌+◌, ◌-◌, ◌*◌, ◌/◌, ◌%◌, ◌^◌, ◌≤◌, ◌<◌}
 use mathlib.Core.Path.{◌≡◌, refl, sym, ap, ◌∙◌}
-use mathlib.Core.Bool.{Bool, true, false, not, ◌&&◌, ◌||◌, and_false}
+use mathlib.Core.Bool.{Bool, true, false, not, ◌&&◌, ◌||◌, and-false}
 use mathlib.Core.List.{List}
 use native.Mathlib.Numerals.{add-one}
 use native.Mathlib.Omega.{arith}
@@ -205,7 +205,7 @@ module _ (P : List Place) (B : List ℕ) where
 
   pub untaken_taken : (j : ℕ) → taken P j ≡ true → untaken P B j ≡ false
   unfolding untaken
-  untaken_taken j t = rw t (and_false (labelled B j))
+  untaken_taken j t = rw t (and-false (labelled B j))
 
   pub untaken_plain : (j : ℕ) → labelled B j ≡ false → untaken P B j ≡ false
   unfolding untaken
@@ -247,7 +247,7 @@ module _ (P : List Place) (B : List ℕ) where
   end_same j c f = rw (add-one j, f)
 
   pub end_other : (j c : ℕ) → (line_code j ≡ c → ⊥) → end_at P B (j + 1) c ≡ end_at P B j c
-  end_other j c d = end_same j c (rw (ne_eqb (line_code j) c d) (and_false (taken P j)))
+  end_other j c d = end_same j c (rw (ne_eqb (line_code j) c d) (and-false (taken P j)))
 
   pub end_off : (j c : ℕ) → taken P j ≡ false → end_at P B (j + 1) c ≡ end_at P B j c
   end_off j c f = end_same j c (rw f)

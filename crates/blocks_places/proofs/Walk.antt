@@ -9,7 +9,7 @@ use native.Mathlib.Omega.{arith}
 use lib.ListN.{length, get_or, set, replicate, length-set, get_or-replicate}
 use lib.Seq.{get_or-set_same, get_or-set_other}
 use lib.Dec.{eqb, ltb}
-use borrow.Author.Tests.{lt-ltb, le-ltb, eqb-true, eqb-false, ltb-false, not_false}
+use borrow.Author.Tests.{lt-ltb, le-ltb, eqb-true, eqb-false, ltb-false, not-false}
 use Rattle.base_lists.specs.Ranges.{first}
 use Rattle.base_lists.specs.Windows.{Within, spliced}
 use Rattle.base_lists.specs.Records.{flat}
@@ -384,7 +384,7 @@ odd_no : (p a : ℕ) → odd_place p a ≡ false → (a ≡ 0) ⊎ (a ≡ 8 - p 
 unfolding odd_place
 odd_no p a f = by-test (eqb a 0)
     (λ t. inl (eqb-true _ _ t))
-    (λ n. inr (eqb-true _ _ (not_false _ (rw n at f))))
+    (λ n. inr (eqb-true _ _ (not-false _ (rw n at f))))
 
 module _ (o : ByteOrder) (C B : List ℕ) (p : placing o C B ≡ Placed) where
   pub placed_facts : (j : ℕ) → j < line_count B → is_placed o C B j ≡ true → Spanned o C B j

@@ -1,5 +1,7 @@
 // Where the lines of a block file lie in the compiled object: refusals 8 and 9, and the table of places that the draft and the merge go by. Each function equals its
 // definition in specs/.
+#![tactic(auto)]
+
 ghost use Rattle.std.specs.Prelude.{◌≡◌, true, [], ◌∷◌, ◌+◌, ◌*◌, ◌^◌, ◌≤◌, ◌<◌, length};
 ghost use Rattle.base_lists.specs.Windows.{spliced};
 ghost use Rattle.base_lists.specs.Records.{flat};
@@ -20,7 +22,7 @@ use base_fields::ByteOrder;
 use elf_symbols::SymbolTable;
 
 // The answer of the walk over all blocks: every span is placed, or the block at fault by 8 or by 9.
-#[derive(Drop)]
+#[derive(Clone, Copy)]
 pub enum Placing {
     Placed,
     Misplaced(usize),
@@ -68,7 +70,7 @@ pub fn is_labelled(file: &[u8], table: &[u8], j: usize) -> bool
 
 // What one line comes to in the walk: refused by 8, refused by 9; its row of the table of places; the end of its section behind it, and whether
 // the line behind it is reached.
-#[derive(Drop)]
+#[derive(Clone, Copy)]
 struct LineStep {
     misplaced: bool,
     misaligned: bool,

@@ -1,5 +1,7 @@
 // The spans of a section: the table of them, gathered from the lines of a block file, and what is found in it by binary search. Each function equals its definition in
 // specs/. What copying the spans makes of a section is `copied` in specs/Copied.antt.
+#![tactic(auto)]
+
 ghost use Rattle.std.specs.Prelude.{◌≡◌, ◌+◌, ◌*◌, ◌^◌, ◌≤◌, ◌<◌, length, ltb};
 ghost use Rattle.base_lists.specs.Ranges.{first, count};
 ghost use Rattle.base_scope.specs.Codes.{line_code};
@@ -14,14 +16,14 @@ ghost use Rattle.blocks_spans.specs.Table.{span_in, spans_in, span_ends, Stored,
 use base_fields::ByteOrder;
 
 // A span: its place in the section, and its size.
-#[derive(Drop)]
+#[derive(Clone, Copy)]
 pub struct Span {
     pub place: usize,
     pub size: usize,
 }
 
 // The first span of a section that ends behind an offset, or none.
-#[derive(Drop)]
+#[derive(Clone, Copy)]
 pub enum NextSpan {
     NoSpan,
     Next(Span),

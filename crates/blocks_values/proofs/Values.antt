@@ -2,7 +2,7 @@
 -- 10 ^ n, and more, with no leading zero, do not; so a number up to a limit has few digits. Assumes nothing.
 use Prim.Native.Nat.{ℕ, suc, ◌+◌, ◌-◌, ◌*◌, ◌^◌, ◌≤◌, ◌<◌}
 use mathlib.Core.Path.{◌≡◌, refl, sym, ap, ◌∙◌}
-use mathlib.Core.Bool.{Bool, true, false, not, ◌&&◌, ◌||◌, and_true}
+use mathlib.Core.Bool.{Bool, true, false, not, ◌&&◌, ◌||◌, and-true}
 use mathlib.Core.List.{List, [], ◌∷◌, ◌++◌}
 use native.Mathlib.Nat.{sub-zero, mul-one, mul_assoc, mul-le-mul_right, pow-le-pow_right, pow-succ'}
 use native.Mathlib.Numerals.{add-one}
@@ -10,7 +10,7 @@ use native.Mathlib.Omega.{arith}
 use lib.ListN.{length, take, drop, get_or, take-append-drop, drop_of_length-le}
 use lib.Seq.{length-take-le, get_or-take}
 use lib.Dec.{eqb, ltb, leb}
-use borrow.Author.Tests.{eq-eqb, ne_eqb, eqb-true, eqb-false, lt-ltb, ltb-true, leb-true, lt-leb, not-true, not_false}
+use borrow.Author.Tests.{eq-eqb, ne_eqb, eqb-true, eqb-false, lt-ltb, ltb-true, leb-true, lt-leb, not-true, not-false}
 use Rattle.base_lists.specs.Ranges.{first, IsFirst}
 use Rattle.base_lists.proofs.Ranges.{and_parts, by-test, both, by-lt, first_none, none_first, first_is, first_high}
 use Rattle.base_lists.proofs.Windows.{drop_next}
@@ -26,7 +26,7 @@ use Rattle.blocks_values.specs.Parts.{line_parts}
 module _ (p : ℕ → Bool) (v : List ℕ) where
   pub every_true : every p v ≡ true → (i : ℕ) → i < length v → p (get_or v i 0) ≡ true
   unfolding every
-  every_true t i h = not_false _ (none_first (λ j. not (p (get_or v j 0))) 0 (length v) i (eqb-true _ _ t) (omega arith) h)
+  every_true t i h = not-false _ (none_first (λ j. not (p (get_or v j 0))) 0 (length v) i (eqb-true _ _ t) (omega arith) h)
 
   -- a loop along v has seen only bytes that pass, or meets one that does not
   pub every_all : ((i : ℕ) → i < length v → p (get_or v i 0) ≡ true) → every p v ≡ true
@@ -101,7 +101,7 @@ module _ (v : List ℕ) where
 
   pub number_one : length v ≡ 1 → is_number v ≡ every is_digit v
   unfolding is_number
-  number_one e = rw e (and_true _)
+  number_one e = rw e (and-true _)
 
   pub number_more : 1 < length v → is_number v ≡ (every is_digit v && not (eqb (get_or v 0 0) 48))
   unfolding is_number

@@ -1,4 +1,6 @@
 // The values behind the keys of a block file: numbers in digits, labels, `label size align8`, hex digits. Every function equals its definition in specs/.
+#![tactic(auto)]
+
 ghost use Rattle.std.specs.Prelude.{◌≡◌, true, ◌&&◌, ◌+◌, ◌≤◌, ◌<◌, length, drop};
 ghost use Rattle.base_scope.specs.Limits.{NUMBER_LIMIT, ALIGN8_LIMIT};
 ghost use Rattle.base_text.specs.Decimals.{decimal};
@@ -6,7 +8,7 @@ ghost use Rattle.blocks_values.specs.Values.{every, is_digit, is_hex_digit, is_n
 ghost use Rattle.blocks_values.specs.Parts.{line_parts};
 
 // What `label size align8` says: how many bytes its label has, and its two numbers.
-#[derive(Drop)]
+#[derive(Clone, Copy)]
 pub struct LineParts {
     pub label: usize,
     pub size: usize,

@@ -11,7 +11,7 @@ use borrow.Author.Tests.{lt-ltb, le-ltb, ltb-true, eq-eqb, ne_eqb, eqb-true, eqb
 use Rattle.base_lists.specs.Ranges.{first, least}
 use Rattle.base_lists.proofs.Ranges.{by-test, and_parts, least_next, least_high}
 use Rattle.base_fields.specs.declared.ByteOrder.{ByteOrder}
-use Rattle.base_scope.specs.Codes.{TEXT, DATA, RODATA, BSS, LATE-RODATA_lem, LINES, CODES, target_code}
+use Rattle.base_scope.specs.Codes.{TEXT, DATA, RODATA, BSS, LATE_RODATA, LINES, CODES, target_code}
 use Rattle.base_scope.specs.declared.Finding.{Finding}
 use Rattle.base_scope.specs.Refusals.{found_below}
 use Rattle.elf_records.specs.declared.section.SectionHeader.{SectionHeader}
@@ -51,18 +51,18 @@ module _ (o : ByteOrder) (C : List ℕ) (kind c j : ℕ) (h : SectionHeader) (is
 
 -- ---- the code of a target
 
-pub target_lines : (c : ℕ) → 1 ≤ c → c ≤ LATE-RODATA_lem → (1 ≤ target_code c) × (target_code c ≤ LINES)
+pub target_lines : (c : ℕ) → 1 ≤ c → c ≤ LATE_RODATA → (1 ≤ target_code c) × (target_code c ≤ LINES)
 unfolding target_code
-target_lines c l h = by-test (eqb c LATE-RODATA_lem)
+target_lines c l h = by-test (eqb c LATE_RODATA)
     (λ t. rw t (omega arith, omega arith))
-    (λ f. let n = eqb-false c LATE-RODATA_lem f in rw f (l, omega (arith, n, h)))
+    (λ f. let n = eqb-false c LATE_RODATA f in rw f (l, omega (arith, n, h)))
 
-carried_source : (o : ByteOrder) (A : List ℕ) (t : ℕ) → is_carried o A t ≡ true → carried_code o A t ≤ LATE-RODATA_lem
+carried_source : (o : ByteOrder) (A : List ℕ) (t : ℕ) → is_carried o A t ≡ true → carried_code o A t ≤ LATE_RODATA
 unfolding is_carried is_source_table is_source carried_code
 carried_source o A t e =
     let a = and_parts (is_source_table o A t) (ltb 0 (length (coded_contents o A (carried_code o A t)))) e in
     let b = and_parts (is_table o A t) (is_source o A (section o A t).sh_info) a.0 in
-    let c = ltb-true (code_of o A (section o A t).sh_info) (LATE-RODATA_lem + 1) b.1 in
+    let c = ltb-true (code_of o A (section o A t).sh_info) (LATE_RODATA + 1) b.1 in
     omega (arith, c)
 
 -- ---- the clash of one table

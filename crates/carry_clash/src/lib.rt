@@ -1,5 +1,7 @@
 // Refusal 10: the lowest section of C whose relocations or symbols cannot be carried (specs/Clash.antt). Each function equals its definition; sections of codes are read by the
 // views.
+#![tactic(auto)]
+
 ghost use Rattle.std.specs.Prelude.{◌≡◌, ◌≤◌, ◌<◌, min};
 ghost use Rattle.base_lists.specs.Ranges.{first, least};
 ghost use Rattle.base_scope.specs.Codes.{LINES, CODES};

@@ -13,7 +13,7 @@ use Rattle.base_fields.specs.declared.ByteOrder.{ByteOrder}
 use Rattle.base_fields.specs.Numbers.{number}
 use Rattle.base_fields.specs.Layouts.{width_of}
 use Rattle.base_packed.specs.Packed.{symbol_of, kind_of, relocation_info}
-use Rattle.base_scope.specs.Codes.{LATE-RODATA_lem, leaves_out, is_late_target}
+use Rattle.base_scope.specs.Codes.{LATE_RODATA, leaves_out, is_late_target}
 use Rattle.base_scope.specs.Elf.{SHT_RELA}
 use Rattle.elf_records.specs.declared.relocation.RelocationEntry.{RelocationEntry}
 use Rattle.elf_records.specs.declared.section.SectionHeader.{SectionHeader}
@@ -145,13 +145,13 @@ module _ (s : Moves) (rows late : List ℕ) (c x : ℕ) where
   goal_clear y n f = rw (y, f, n)
 
   module _ (no : s.compiled ≡ false) where
-    pub goal_late : c ≡ LATE-RODATA_lem → (g : Goal) → g ≡ pick_goal s.runs (late_goal (offset_at late s.blocks x)) Unmoved → g ≡ goal_in s rows late c x
+    pub goal_late : c ≡ LATE_RODATA → (g : Goal) → g ≡ pick_goal s.runs (late_goal (offset_at late s.blocks x)) Unmoved → g ≡ goal_in s rows late c x
     unfolding goal_in
-    goal_late h g e = rw (no, eq-eqb c LATE-RODATA_lem h) e
+    goal_late h g e = rw (no, eq-eqb c LATE_RODATA h) e
 
-    pub goal_same : (c ≡ LATE-RODATA_lem → ⊥) → To x ≡ goal_in s rows late c x
+    pub goal_same : (c ≡ LATE_RODATA → ⊥) → To x ≡ goal_in s rows late c x
     unfolding goal_in
-    goal_same d = rw (no, ne_eqb c LATE-RODATA_lem d)
+    goal_same d = rw (no, ne_eqb c LATE_RODATA d)
 
 -- ---- gaps whose entries stay
 
@@ -169,7 +169,7 @@ module _ (s : Side) (c : ℕ) where
   unfolding is_still
   still_late y a e n b f = rw (y, ← e, n, ← f)
 
-  pub still_assembled : s.compiled ≡ false → not (eqb c LATE-RODATA_lem) ≡ is_still s c
+  pub still_assembled : s.compiled ≡ false → not (eqb c LATE_RODATA) ≡ is_still s c
   unfolding is_still
   still_assembled n = rw n
 
@@ -180,7 +180,7 @@ module _ (s : Side) (c : ℕ) where
         (λ y.
         let p = not_or (leaves_out c) (is_late_target c) (rw y at e) in
         goal_clear (moves_of s) rows late c x y p.1 (rw p.0))
-        (λ n. goal_same (moves_of s) rows late c x n (λ q. let f = rw (n, eq-eqb c LATE-RODATA_lem q) at e in both f refl))
+        (λ n. goal_same (moves_of s) rows late c x n (λ q. let f = rw (n, eq-eqb c LATE_RODATA q) at e in both f refl))
 
     pub stays_still : is_still s c ≡ true → (g : Gap) → Stays s rows late c g
     stays_still e g = record { stay = λ x l h. still_goal e x }
@@ -298,7 +298,7 @@ module _ (s : Side) (rows late N : List ℕ) (c : ℕ) (e : RelocationEntry) (m 
     unfolding goal_in is_gone_in
     lost_never d = sym (rw d (never_stuck (is_gone_in (moves_of s) rows late c e.r_offset) e.r_offset)) ∙ lost_there
 
-    pub lost_unmoved : s.compiled ≡ false → (c ≡ LATE-RODATA_lem → ⊥) → false ≡ is_lost_entry s rows late N c e
+    pub lost_unmoved : s.compiled ≡ false → (c ≡ LATE_RODATA → ⊥) → false ≡ is_lost_entry s rows late N c e
     unfolding is_stuck
     lost_unmoved n d = ap is_stuck (goal_same (moves_of s) rows late c e.r_offset n d) ∙ lost_there
 

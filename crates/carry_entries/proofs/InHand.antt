@@ -8,7 +8,7 @@ use lib.Dec.{eqb}
 use borrow.Author.Tests.{eqb-true}
 use Rattle.base_lists.proofs.Ranges.{by-test, both}
 use Rattle.base_fields.specs.declared.ByteOrder.{ByteOrder}
-use Rattle.base_scope.specs.Codes.{TEXT, LATE-RODATA_lem, LATE_TARGET, leaves_out, is_late_target}
+use Rattle.base_scope.specs.Codes.{TEXT, LATE_RODATA, LATE_TARGET, leaves_out, is_late_target}
 use Rattle.base_scope.specs.Limits.{ID_LIMIT}
 use Rattle.base_scope.specs.declared.Finding.{Finding}
 use Rattle.base_scope.proofs.Codes.{leaves_text}
@@ -56,7 +56,7 @@ unfolding goal_in
 goal_compiled s rows late c x y = rw y
 
 goal_assembled : (s : Side) (rows late : List ℕ) (c x : ℕ) → s.compiled ≡ false
-    → goal_in (moves_of s) rows late c x ≡ pick_goal (eqb c LATE-RODATA_lem) (pick_goal s.runs (late_goal (offset_at late s.blocks x)) Unmoved) (To x)
+    → goal_in (moves_of s) rows late c x ≡ pick_goal (eqb c LATE_RODATA) (pick_goal s.runs (late_goal (offset_at late s.blocks x)) Unmoved) (To x)
 unfolding goal_in
 goal_assembled s rows late c x n = rw n
 
@@ -125,7 +125,7 @@ module _ (C A : List ℕ) (P : List Place) (B : List ℕ) (s : Side) (rows late 
 
   pub goal_a_lem : s.compiled ≡ false → (c x : ℕ) → goal_in (moves_of s) rows late c x ≡ goal_a o C A P B c x
   unfolding goal_a
-  goal_a_lem n c x = goal_assembled s rows late c x n ∙ ap (λ (g : Goal). pick_goal (eqb c LATE-RODATA_lem) g (To x)) (late_is x)
+  goal_a_lem n c x = goal_assembled s rows late c x n ∙ ap (λ (g : Goal). pick_goal (eqb c LATE_RODATA) g (To x)) (late_is x)
 
 -- ---- what symbols become
 

@@ -2,7 +2,7 @@
 -- that 000 adds are those of its five sections that hold bytes, and late ones move. P are the places of the lines of the block file B.
 use Rattle.std.specs.Prelude.{ℕ, Bool, true, false, ◌&&◌, ◌||◌, List, eqb}
 use Rattle.base_fields.specs.declared.ByteOrder.{ByteOrder}
-use Rattle.base_scope.specs.Codes.{LATE-RODATA_lem, LATE_TARGET, leaves_out, is_late_target}
+use Rattle.base_scope.specs.Codes.{LATE_RODATA, LATE_TARGET, leaves_out, is_late_target}
 use Rattle.base_answers.specs.declared.Verdict.{Verdict}
 use Rattle.base_answers.specs.Answers.{COMPILED, ASSEMBLED}
 use Rattle.base_answers.specs.Verdicts.{also, finding_verdict}
@@ -44,7 +44,7 @@ module _ (o : ByteOrder) (C A : List ℕ) (P : List Place) (B : List ℕ) where
 
   unfoldable pub goal_a : ℕ → ℕ → Goal
   goal_a c x =
-      pick_goal (eqb c LATE-RODATA_lem)
+      pick_goal (eqb c LATE_RODATA)
       (pick_goal (has_late_step P B && is_moved P B (late_start o A) x) (To (late_place o C A P B x)) Unmoved)
       (To x)
 

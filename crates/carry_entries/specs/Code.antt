@@ -4,7 +4,7 @@ use Rattle.std.specs.Prelude.{ℕ, ◌+◌, ◌*◌, ◌^◌, ◌≤◌, ◌<◌
 use Rattle.base_lists.specs.Ranges.{pick_list}
 use Rattle.base_fields.specs.declared.ByteOrder.{ByteOrder}
 use Rattle.base_packed.specs.Packed.{symbol_of, kind_of, relocation_info}
-use Rattle.base_scope.specs.Codes.{LATE-RODATA_lem, leaves_out, is_late_target}
+use Rattle.base_scope.specs.Codes.{LATE_RODATA, leaves_out, is_late_target}
 use Rattle.elf_records.specs.declared.relocation.RelocationEntry.{RelocationEntry}
 use Rattle.elf_records.specs.Relocation.{relocation_bytes}
 use Rattle.elf_readers.specs.Readers.{section_count, section}
@@ -56,7 +56,7 @@ module _ (s : Moves) (rows late : List ℕ) where
   goal_in c x =
       pick_goal s.compiled
       (pick_goal (is_gone_in c x) LeftOut (To x))
-      (pick_goal (eqb c LATE-RODATA_lem) (pick_goal s.runs (late_goal (offset_at late s.blocks x)) Unmoved) (To x))
+      (pick_goal (eqb c LATE_RODATA) (pick_goal s.runs (late_goal (offset_at late s.blocks x)) Unmoved) (To x))
 
 -- how the entries of object F are carried; N are the numbers of the ids
 unfoldable pub carrying_in : List ℕ → Side → List ℕ → List ℕ → List ℕ → Carrying
@@ -106,7 +106,7 @@ placed_bytes s N p e = pick_list (eqb p OFFSETS) [] (relocation_bytes s.order (c
 
 -- all entries for the section of code c stay where they are (proofs/Goals.antt, `still_goal`)
 unfoldable pub is_still : Side → ℕ → Bool
-is_still s c = cond s.compiled (not (leaves_out c || is_late_target c)) (not (eqb c LATE-RODATA_lem))
+is_still s c = cond s.compiled (not (leaves_out c || is_late_target c)) (not (eqb c LATE_RODATA))
 
 -- ---- what is asked of what is in hand
 

@@ -1,5 +1,7 @@
 // The entries of an object's relocation tables in the result, and refusal 20 (specs/Entries.antt). Each function equals its definition over what is in hand (specs/Code.antt);
 // proofs/InHand.antt says what that is of C, A and the block file. Document 01, "Carrying".
+#![tactic(auto)]
+
 ghost use Rattle.std.specs.Prelude.{◌≡◌, true, false, cond, ◌&&◌, ◌⊎◌, List, ℕ, ◌+◌, ◌-◌, ◌*◌, ◌^◌, ◌≤◌, ◌<◌, min, length, leb, ltb};
 ghost use Rattle.base_lists.specs.Ranges.{first};
 ghost use Rattle.base_lists.specs.Written.{Written};
@@ -36,7 +38,7 @@ use symbols_numbers::NewSymbol;
 const OFFSETS: usize = 4294967296;
 
 // Where an entry goes: to a place, or nowhere: its word is written anew, or its late word is not moved.
-#[derive(Drop)]
+#[derive(Clone, Copy)]
 pub enum Goal {
     To(u32),
     LeftOut,
@@ -45,7 +47,7 @@ pub enum Goal {
 
 // What is in hand of an object whose entries are carried: whether it is C, its byte order and view; how many spans .text has; whether the late step runs, and over how many
 // blocks; and the id of its symbol 0.
-#[derive(Drop)]
+#[derive(Clone, Copy)]
 pub struct Side {
     pub compiled: bool,
     pub order: ByteOrder,
@@ -57,7 +59,7 @@ pub struct Side {
 }
 
 // What of it says where entries go: whether it is C, how many spans .text has, and the late step.
-#[derive(Drop)]
+#[derive(Clone, Copy)]
 struct Moves {
     pub compiled: bool,
     pub spans: usize,
@@ -82,7 +84,7 @@ fn moves_of(side: Side) -> Moves
 }
 
 // A relocation table: its section, the code of the section that it relocates, where its entries start in the file, whether they have addends, and the bytes of an entry.
-#[derive(Drop)]
+#[derive(Clone, Copy)]
 struct EntryTable {
     pub index: usize,
     pub code: u32,
@@ -92,7 +94,7 @@ struct EntryTable {
 }
 
 // Offsets from `low` up to `high`, none of which starts a replaced word, and the row of the span behind them. Entries mostly ascend, so the gap of one often tells of the next.
-#[derive(Drop)]
+#[derive(Clone, Copy)]
 struct Gap {
     pub low: usize,
     pub high: usize,

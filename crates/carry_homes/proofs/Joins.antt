@@ -6,7 +6,7 @@ use mathlib.Core.List.{List, []}
 use native.Mathlib.Omega.{arith}
 use lib.ListN.{length}
 use lib.Dec.{eqb, ltb}
-use borrow.Author.Tests.{ltb-true, ltb-false, lt-ltb, eqb-true, eq-eqb, ne_eqb, not-true, not_false}
+use borrow.Author.Tests.{ltb-true, ltb-false, lt-ltb, eqb-true, eq-eqb, ne_eqb, not-true, not-false}
 use Rattle.base_lists.specs.Ranges.{count, IsFirst}
 use Rattle.base_lists.specs.Strings.{same}
 use Rattle.base_lists.proofs.Ranges.{by-test, by-lt, both, and_parts, or_parts, first_is, first_unique, count_mono, count_lt, count_le, count_hit, gather_none, select_at}
@@ -169,7 +169,7 @@ module _ (o : ByteOrder) (C A : List ℕ) (stay : ℕ) where
     home_kind s f t =
         let p = or_parts (not (eqb (section o C (joined_section o C A table)).sh_type (section o A table).sh_type))
         (not (eqb (section o C (joined_section o C A table)).sh_info (coded_section o C goal))) (not_other_lem s f t) in
-        rw (home_there j t) (eqb-true _ _ (not_false _ p.0), eqb-true _ _ (not_false _ p.1))
+        rw (home_there j t) (eqb-true _ _ (not-false _ p.0), eqb-true _ _ (not-false _ p.1))
 
   -- ---- the new sections
 

@@ -17,7 +17,7 @@ use Rattle.base_fields.specs.declared.ByteOrder.{ByteOrder}
 use Rattle.base_fields.specs.declared.ByteOrder.TheVariants.{Big}
 use Rattle.base_fields.specs.Numbers.{encoded}
 use Rattle.base_fields.proofs.Numbers.{length_encoded, number_spliced, number_outside}
-use Rattle.base_scope.specs.Codes.{TEXT, DATA, RODATA, LATE-RODATA_lem}
+use Rattle.base_scope.specs.Codes.{TEXT, DATA, RODATA, LATE_RODATA}
 use Rattle.base_scope.specs.Limits.{SECTION_LIMIT}
 use Rattle.base_groups.specs.Groups.{in_group, grouped_place}
 use Rattle.base_groups.proofs.Groups.{in_kept, grouped_zero, grouped_long, grouped_mono, grouped_at, place_low, place_high, place_lt, Stands, stands_at}
@@ -48,7 +48,7 @@ pub rank_other : (c : ℕ) → (c ≡ DATA → ⊥) → (c ≡ TEXT → ⊥) →
 unfolding carried_rank
 rank_other c d e = rw (ne_eqb c DATA d, ne_eqb c TEXT e)
 
-rank_low : (c : ℕ) → c ≤ LATE-RODATA_lem → carried_rank c < CARRIED_RANKS
+rank_low : (c : ℕ) → c ≤ LATE_RODATA → carried_rank c < CARRIED_RANKS
 unfolding carried_rank
 rank_low c h = by-test (eqb c DATA)
     (λ t. rw t (omega arith))
@@ -86,14 +86,14 @@ module _ (o : ByteOrder) (A : List ℕ) where
 
   pub code_first : (t : ℕ) → 1 ≤ carried_code o A t
   unfolding carried_code code_of
-  code_first t = first_low_lem (is_section_of o A (section o A t).sh_info) TEXT (LATE-RODATA_lem + 1)
+  code_first t = first_low_lem (is_section_of o A (section o A t).sh_info) TEXT (LATE_RODATA + 1)
 
-  pub code_last : (t : ℕ) → is_carried o A t ≡ true → carried_code o A t ≤ LATE-RODATA_lem
+  pub code_last : (t : ℕ) → is_carried o A t ≡ true → carried_code o A t ≤ LATE_RODATA
   unfolding is_carried is_source_table is_source carried_code
   code_last t e =
       let a = and_parts (is_source_table o A t) (ltb 0 (length (coded_contents o A (carried_code o A t)))) e in
       let b = and_parts (is_table o A t) (is_source o A (section o A t).sh_info) a.0 in
-      let c = ltb-true (code_of o A (section o A t).sh_info) (LATE-RODATA_lem + 1) b.1 in
+      let c = ltb-true (code_of o A (section o A t).sh_info) (LATE_RODATA + 1) b.1 in
       omega (arith, c)
 
   rank_lt : (t : ℕ) → is_carried o A t ≡ true → rank t < CARRIED_RANKS
@@ -165,7 +165,7 @@ module _ (o : ByteOrder) (A : List ℕ) where
       ))))
 
   -- entries of .late_rodata come behind those of .rodata
-  pub late_behind : (i j : ℕ) → i < carried_count o A → j < carried_count o A → carried_code o A (carried_table o A i) ≡ RODATA → carried_code o A (carried_table o A j) ≡ LATE-RODATA_lem
+  pub late_behind : (i j : ℕ) → i < carried_count o A → j < carried_count o A → carried_code o A (carried_table o A i) ≡ RODATA → carried_code o A (carried_table o A j) ≡ LATE_RODATA
       → i < j
   unfolding carried_rank
   late_behind i j h l e f =

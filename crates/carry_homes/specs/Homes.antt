@@ -6,7 +6,7 @@ use Rattle.base_lists.specs.Strings.{same}
 use Rattle.base_fields.specs.declared.ByteOrder.{ByteOrder}
 use Rattle.base_groups.specs.Groups.{grouped}
 use Rattle.base_groups.specs.Holders.{holder, is_holder}
-use Rattle.base_scope.specs.Codes.{TEXT, DATA, LATE-RODATA_lem, target_code}
+use Rattle.base_scope.specs.Codes.{TEXT, DATA, LATE_RODATA, target_code}
 use Rattle.elf_readers.specs.Readers.{section_count}
 use Rattle.elf_relocations.specs.Relocations.{is_rela}
 use Rattle.carry_clash.specs.Clash.{joined_name, carried_code, is_carried, joined_section}
@@ -16,7 +16,7 @@ unfoldable pub carried_rank : ℕ → ℕ
 carried_rank c = cond (eqb c DATA) 0 (cond (eqb c TEXT) 1 (c - 1))
 
 abbrev pub CARRIED_RANKS : ℕ
-CARRIED_RANKS = LATE-RODATA_lem
+CARRIED_RANKS = LATE_RODATA
 
 module _ (o : ByteOrder) (A : List ℕ) where
   -- the carried tables in that order; tables of one section by index

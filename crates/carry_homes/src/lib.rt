@@ -1,5 +1,7 @@
 // The relocation tables of A that are carried, in their order, and the section of the result that each joins (specs/Homes.antt), as rows of a table (specs/Code.antt); the
 // names of the sections that are new.
+#![tactic(auto)]
+
 ghost use Rattle.std.specs.Prelude.{◌≡◌, ◌+◌, ◌*◌, ◌^◌, ◌≤◌, ◌<◌, length};
 ghost use Rattle.base_lists.specs.Written.{Written};
 ghost use Rattle.base_groups.specs.Holders.{holder};
@@ -22,14 +24,14 @@ pub const HOME_ROW: usize = 8;
 const RANKS: usize = 5;
 
 // What the name of a table is made of: whether it has addends, and the code of the section that it relocates.
-#[derive(Drop)]
+#[derive(Clone, Copy)]
 pub struct TableName {
     pub rela: bool,
     pub code: u32,
 }
 
 // How many tables are carried, and how many new sections they open.
-#[derive(Drop)]
+#[derive(Clone, Copy)]
 pub struct Homes {
     pub tables: usize,
     pub opened: usize,

@@ -1,5 +1,7 @@
 // Carrying behind the symbol merge: how many of C's sections stay, the spans of .text and the homes of A's tables, in the working buffers of `merge_buffers`; and refusal 20 of
 // both objects. What stands where is in specs/Tables.antt, what each function leaves in specs/Carry.antt; `carry_fault` equals `carry_verdict` of the crate carry_entries.
+#![tactic(auto)]
+
 ghost use Rattle.std.specs.Prelude.{◌≡◌, ◌≤◌, length};
 ghost use Rattle.base_answers.specs.Verdicts.{finding_verdict};
 ghost use Rattle.elf_readers.specs.Readers.{section_count};
@@ -32,7 +34,7 @@ pub const HOMES_END: usize = 33792;
 pub const LOST_ENTRY: u32 = 20;
 
 // What is made ready: how many of C's sections stay, how many spans .text has, and the homes of A's tables.
-#[derive(Drop)]
+#[derive(Clone, Copy)]
 pub struct Carry {
     pub stay: usize,
     pub spans: usize,

@@ -1,4 +1,6 @@
 // Checks objects as document 01 does: for each file that it is given it prints the name and `accepted`, or `refused`, number and place.
+#![tactic(auto)]
+
 use elf_check::Checked;
 use libc::STDOUT_FILENO;
 

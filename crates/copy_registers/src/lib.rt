@@ -1,4 +1,6 @@
 // The .reginfo of the result: A's ORed into C's, byte by byte, equal to `joined` of specs/Reginfo.antt (document 01, "Merge").
+#![tactic(auto)]
+
 ghost use Rattle.std.specs.Prelude.{◌≡◌, ◌+◌, ◌≤◌, ◌<◌, length};
 ghost use Rattle.base_lists.specs.Windows.{spliced};
 ghost use Rattle.copy_registers.specs.Reginfo.{joined_byte, joined};

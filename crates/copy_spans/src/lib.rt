@@ -2,6 +2,8 @@
 // the block bytes of a section from A over C's. Each walk equals its definition in specs/Records.antt, whatever the list holds. `write_copied` makes the list from the
 // tables of the core and lends it to both: what it writes equals `copied` of the crate blocks_spans ("Merge: ... Blocks are copied at their own offsets").
 // The derivations of the functions that hold a lent list are made by tools/twin.py.
+#![tactic(auto)]
+
 ghost use Rattle.std.specs.Prelude.{◌≡◌, true, ◌+◌, ◌*◌, ◌≤◌, ◌<◌, length};
 ghost use Rattle.base_lists.specs.Windows.{spliced};
 ghost use Rattle.base_scope.specs.Codes.{LINES};
@@ -15,7 +17,7 @@ ghost use Rattle.blocks_spans.specs.Copied.{copied};
 ghost use Rattle.copy_spans.specs.Records.{FEW_BLOCKS, no_record, is_low, end_behind, first_low, BlockCopied, BlocksCopied, record_of, Filled};
 
 // A span of a block: the code of its section, its place and its size in the section, and the block.
-#[derive(Drop)]
+#[derive(Clone, Copy)]
 pub struct SpanRecord {
     pub code: u32,
     pub place: u32,

@@ -1,5 +1,7 @@
 // Both calls in one static library (`rt staticlib daphulle`): an archive has the functions that its own crate exports and none of the crates below, so each call is handed on here
 // under its contract; and demand 3 stands in that of the merge.
+#![tactic(auto)]
+
 ghost use Rattle.std.specs.Prelude.{length};
 ghost use Rattle.daphulle.specs.Keeps.{Keeps};
 ghost use Rattle.draft_call.specs.Verdict.{draft_verdict};

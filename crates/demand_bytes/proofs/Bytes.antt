@@ -17,7 +17,7 @@ use Rattle.base_fields.specs.declared.ByteOrder.{ByteOrder}
 use Rattle.base_fields.specs.Numbers.{encoded}
 use Rattle.base_fields.proofs.Numbers.{length_encoded}
 use Rattle.base_scope.specs.Elf.{SHT_NULL, SHT_NOBITS, SHT_MIPS_DEBUG}
-use Rattle.base_scope.specs.Codes.{BSS, LATE-RODATA_lem, REGINFO}
+use Rattle.base_scope.specs.Codes.{BSS, LATE_RODATA, REGINFO}
 use Rattle.base_scope.specs.declared.Finding.TheVariants.{Clear}
 use Rattle.elf_readers.specs.Readers.{order_of, header, section_count, section, contents, coded_contents}
 use Rattle.elf_readers.proofs.Readers.{contents_none}
@@ -112,9 +112,9 @@ module _ (o : ByteOrder) (C A : List ℕ) (P : List Place) (B path : List ℕ) (
         let e : coded_contents o C c ≡ contents o C i = code_contents o C i (omega (arith, l)) in
         let u : x < length (coded_contents o C c) = rw e h in
         let w : is_written o P B (coded_contents o C c) (coded_contents o A c) c x ≡ false = rw t at f in
-        let b = part_byte (final_bytes o P B (coded_contents o C c) (coded_contents o A c) (coded_contents o A LATE-RODATA_lem) (late_start o A) c) (coded_contents o C c) x
-        (own_part o P B (coded_contents o C c) (coded_contents o A c) (coded_contents o A LATE-RODATA_lem) (late_start o A) c x 1 (omega (arith, u)) (λ j k. one_byte c x w j k)) in
-        let m = final_length o P B (coded_contents o C c) (coded_contents o A c) (coded_contents o A LATE-RODATA_lem) (late_start o A) c in
+        let b = part_byte (final_bytes o P B (coded_contents o C c) (coded_contents o A c) (coded_contents o A LATE_RODATA) (late_start o A) c) (coded_contents o C c) x
+        (own_part o P B (coded_contents o C c) (coded_contents o A c) (coded_contents o A LATE_RODATA) (late_start o A) c x 1 (omega (arith, u)) (λ j k. one_byte c x w j k)) in
+        let m = final_length o P B (coded_contents o C c) (coded_contents o A c) (coded_contents o A LATE_RODATA) (late_start o A) c in
         rw (a, others, s, ground, t) (b ∙ ap (λ (l : List ℕ). get_or l x 0) e, omega (arith, m, u)))
         (λ t. rw (a, others, s, ground, t) (refl, h)))
       where

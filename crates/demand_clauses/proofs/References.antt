@@ -5,7 +5,7 @@ use mathlib.Core.Bool.{true, false, cond, ◌&&◌}
 use mathlib.Core.List.{List}
 use lib.Dec.{eqb}
 use Rattle.base_fields.specs.declared.ByteOrder.{ByteOrder}
-use Rattle.base_scope.specs.Codes.{LATE-RODATA_lem, target_code}
+use Rattle.base_scope.specs.Codes.{LATE_RODATA, target_code}
 use Rattle.elf_readers.specs.Readers.{section, coded_section}
 use Rattle.elf_relocations.specs.Relocations.{relocation}
 use Rattle.blocks_places.specs.Places.{Place}
@@ -66,14 +66,14 @@ module _ (o : ByteOrder) (C A : List ℕ) (P : List Place) (B : List ℕ) (r : R
     unfolding target_of
     target_a = rw f (ap (λ (x : ℕ). coded_section o C (target_code x)) (code_of_lem A object_a))
 
-    pub late_is : is_late_reference o C A P B r ≡ eqb code LATE-RODATA_lem
+    pub late_is : is_late_reference o C A P B r ≡ eqb code LATE_RODATA
     unfolding is_late_reference
-    late_is = rw f (ap (λ (x : ℕ). eqb x LATE-RODATA_lem) (code_of_lem A object_a))
+    late_is = rw f (ap (λ (x : ℕ). eqb x LATE_RODATA) (code_of_lem A object_a))
 
-    pub moved_a : has_offset o C A P B r ≡ cond (eqb code LATE-RODATA_lem) (has_late_step P B && is_moved P B (late_start o A) offset) true
+    pub moved_a : has_offset o C A P B r ≡ cond (eqb code LATE_RODATA) (has_late_step P B && is_moved P B (late_start o A) offset) true
     unfolding has_offset
     moved_a = rw (late_is, offset_of_lem A object_a)
 
-    pub place_a_lem : new_offset o C A P B r ≡ cond (eqb code LATE-RODATA_lem) (late_place o C A P B offset) offset
+    pub place_a_lem : new_offset o C A P B r ≡ cond (eqb code LATE_RODATA) (late_place o C A P B offset) offset
     unfolding new_offset
     place_a_lem = rw (late_is, offset_of_lem A object_a)

@@ -6,7 +6,7 @@ use Rattle.base_lists.specs.Rows.{has_row}
 use Rattle.base_lists.specs.Strings.{same}
 use Rattle.base_fields.specs.declared.ByteOrder.{ByteOrder}
 use Rattle.base_scope.specs.Elf.{SHT_MIPS_DEBUG, SHN_UNDEF}
-use Rattle.base_scope.specs.Codes.{BSS, LATE-RODATA_lem, REGINFO, target_code}
+use Rattle.base_scope.specs.Codes.{BSS, LATE_RODATA, REGINFO, target_code}
 use Rattle.base_answers.specs.Answers.{COMPILED, ASSEMBLED}
 use Rattle.elf_readers.specs.Readers.{section_count, section, coded_section, coded_contents}
 use Rattle.elf_symbols.specs.Symbols.{symtab, symbol_count, symbol, symbol_name}
@@ -139,7 +139,7 @@ module _ (o : ByteOrder) (C A : List ℕ) (P : List Place) (B : List ℕ) where
     offset_of = (relocation o object_of r.table r.entry).r_offset
 
     unfoldable pub is_late_reference : Bool
-    is_late_reference = not is_compiled && eqb reference_code LATE-RODATA_lem
+    is_late_reference = not is_compiled && eqb reference_code LATE_RODATA
 
     -- the section of the result that it stands in, and where: a late offset at its moved place, which it has
     unfoldable pub target_of : ℕ

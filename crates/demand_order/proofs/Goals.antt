@@ -7,7 +7,7 @@ use lib.Dec.{eqb}
 use borrow.Author.Tests.{not-true}
 use Rattle.base_lists.proofs.Ranges.{by-test, both}
 use Rattle.base_fields.specs.declared.ByteOrder.{ByteOrder}
-use Rattle.base_scope.specs.Codes.{LATE-RODATA_lem}
+use Rattle.base_scope.specs.Codes.{LATE_RODATA}
 use Rattle.elf_readers.specs.Readers.{section}
 use Rattle.elf_relocations.specs.Relocations.{relocation}
 use Rattle.blocks_places.specs.Places.{Place}
@@ -35,23 +35,23 @@ module _ (o : ByteOrder) (C A : List ℕ) (P : List Place) (B : List ℕ) where
 
   left_a : (c x : ℕ) → is_left_out (goal_a o C A P B c x) ≡ false
   unfolding goal_a is_left_out
-  left_a c x = by-test (eqb c LATE-RODATA_lem)
+  left_a c x = by-test (eqb c LATE_RODATA)
       (λ t. by-test (has_late_step P B && is_moved P B (late_start o A) x) (λ y. rw (t, y)) (λ f. rw (t, f)))
       (λ f. rw f)
 
   -- an offset of another section than the late one stays
-  place_a_lem : (c x : ℕ) → eqb c LATE-RODATA_lem ≡ false → goal_place (goal_a o C A P B c x) ≡ x
+  place_a_lem : (c x : ℕ) → eqb c LATE_RODATA ≡ false → goal_place (goal_a o C A P B c x) ≡ x
   unfolding goal_a goal_place
   place_a_lem c x f = rw f
 
   -- a late one that goes anywhere is moved, to its late place
-  moved_a : (c x : ℕ) → eqb c LATE-RODATA_lem ≡ true → is_stuck (goal_a o C A P B c x) ≡ false → (has_late_step P B && is_moved P B (late_start o A) x) ≡ true
+  moved_a : (c x : ℕ) → eqb c LATE_RODATA ≡ true → is_stuck (goal_a o C A P B c x) ≡ false → (has_late_step P B && is_moved P B (late_start o A) x) ≡ true
   unfolding goal_a is_stuck
   moved_a c x t s = by-test (has_late_step P B && is_moved P B (late_start o A) x)
       (λ y. y)
       (λ f. both refl (rw (t, f) at s))
 
-  late_a : (c x : ℕ) → eqb c LATE-RODATA_lem ≡ true → (has_late_step P B && is_moved P B (late_start o A) x) ≡ true → goal_place (goal_a o C A P B c x) ≡ late_place o C A P B x
+  late_a : (c x : ℕ) → eqb c LATE_RODATA ≡ true → (has_late_step P B && is_moved P B (late_start o A) x) ≡ true → goal_place (goal_a o C A P B c x) ≡ late_place o C A P B x
   unfolding goal_a goal_place
   late_a c x t y = rw (t, y)
 
@@ -94,13 +94,13 @@ module _ (o : ByteOrder) (C A : List ℕ) (P : List Place) (B : List ℕ) where
     place_stays y = ap goal_place goal_c_lem ∙ place_c_lem code_c offset_c (not-true (is_gone o C A P B code_c offset_c) y)
 
     -- where A's do: another than a late one at its offset, a late one at its moved place
-    pub place_still : eqb code_a LATE-RODATA_lem ≡ false → goal_place (entry_goal o A (carrying_a o C A P B mode head) t k) ≡ offset_a
+    pub place_still : eqb code_a LATE_RODATA ≡ false → goal_place (entry_goal o A (carrying_a o C A P B mode head) t k) ≡ offset_a
     place_still f = ap goal_place goal_a_lem ∙ place_a_lem code_a offset_a f
 
-    pub late_moved : eqb code_a LATE-RODATA_lem ≡ true → is_stuck (entry_goal o A (carrying_a o C A P B mode head) t k) ≡ false
+    pub late_moved : eqb code_a LATE_RODATA ≡ true → is_stuck (entry_goal o A (carrying_a o C A P B mode head) t k) ≡ false
         → (has_late_step P B && is_moved P B (late_start o A) offset_a) ≡ true
     late_moved y s = moved_a code_a offset_a y (sym (ap is_stuck goal_a_lem) ∙ s)
 
-    pub place_late : eqb code_a LATE-RODATA_lem ≡ true → (has_late_step P B && is_moved P B (late_start o A) offset_a) ≡ true
+    pub place_late : eqb code_a LATE_RODATA ≡ true → (has_late_step P B && is_moved P B (late_start o A) offset_a) ≡ true
         → goal_place (entry_goal o A (carrying_a o C A P B mode head) t k) ≡ late_place o C A P B offset_a
     place_late y m = ap goal_place goal_a_lem ∙ late_a code_a offset_a y m

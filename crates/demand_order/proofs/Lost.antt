@@ -6,7 +6,7 @@ use mathlib.Core.Bool.{true, false, not, ◌||◌}
 use mathlib.Core.List.{List}
 use native.Mathlib.Omega.{arith}
 use lib.ListN.{length, get_or}
-use borrow.Author.Tests.{not_false}
+use borrow.Author.Tests.{not-false}
 use Rattle.base_lists.proofs.Ranges.{by-test, or_parts, least_below}
 use Rattle.base_fields.specs.declared.ByteOrder.{ByteOrder}
 use Rattle.base_fields.proofs.Numbers.{number_lt}
@@ -51,7 +51,7 @@ module _ (o : ByteOrder) (F : List ℕ) (w : Carrying) (bytes : (i : ℕ) → ge
   none_lost y =
       let g : (is_stuck (entry_goal o F w t k) || not (is_in_result (entry_symbol o F w t k))) ≡ false = rw y at lost_not in
       let q = or_parts (is_stuck (entry_goal o F w t k)) (not (is_in_result (entry_symbol o F w t k))) g in
-      (q.0, not_false (is_in_result (entry_symbol o F w t k)) q.1)
+      (q.0, not-false (is_in_result (entry_symbol o F w t k)) q.1)
 
 -- ---- of an accepted merge
 

@@ -12,7 +12,7 @@ use Rattle.base_lists.proofs.Ranges.{by-test, both}
 use Rattle.base_packed.specs.Packed.{kind_of}
 use Rattle.base_fields.specs.declared.ByteOrder.{ByteOrder}
 use Rattle.base_scope.specs.Elf.{SHT_SYMTAB}
-use Rattle.base_scope.specs.Codes.{LATE-RODATA_lem, target_code}
+use Rattle.base_scope.specs.Codes.{LATE_RODATA, target_code}
 use Rattle.elf_records.specs.declared.section.SectionHeader.{SectionHeader}
 use Rattle.elf_records.specs.declared.relocation.RelocationEntry.{RelocationEntry}
 use Rattle.elf_readers.specs.Readers.{order_of, section, coded_section}
@@ -204,14 +204,14 @@ module _ (C A B path : List ℕ) (flag mode : ℕ) (O : List ℕ) (p : MergePass
       pub moved_kept : has_offset o C A P B r ≡ true
       moved_kept = by-test (is_compiled o C A P B r)
           (λ y. moved_c o C A P B r y)
-          (λ f. moved_a o C A P B r f ∙ by-test (eqb (code_of o A (section o A r.table).sh_info) LATE-RODATA_lem)
+          (λ f. moved_a o C A P B r f ∙ by-test (eqb (code_of o A (section o A r.table).sh_info) LATE_RODATA)
           (λ l. rw l (late_moved o C A P B mode head r.table r.entry l (unstuck f)))
           (λ l. rw l))
 
       pub place_kept : (relocation o O t k).r_offset ≡ new_offset o C A P B r
       place_kept = by-test (is_compiled o C A P B r)
           (λ y. stands_c y ∙ sym (place_c_lem o C A P B r y))
-          (λ f. stands_a f ∙ by-test (eqb (code_of o A (section o A r.table).sh_info) LATE-RODATA_lem)
+          (λ f. stands_a f ∙ by-test (eqb (code_of o A (section o A r.table).sh_info) LATE_RODATA)
           (λ l.
           place_late o C A P B mode head r.table r.entry l (late_moved o C A P B mode head r.table r.entry l (unstuck f))
           ∙ sym (place_a_lem o C A P B r f ∙ rw l))

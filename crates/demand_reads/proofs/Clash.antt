@@ -6,7 +6,7 @@ use mathlib.Core.Bool.{true, false, not}
 use mathlib.Core.List.{List}
 use native.Mathlib.Omega.{arith}
 use lib.Dec.{eqb}
-use borrow.Author.Tests.{ltb-true, le-ltb, lt-ltb, le-leb, eq-eqb, not_false}
+use borrow.Author.Tests.{ltb-true, le-ltb, lt-ltb, le-leb, eq-eqb, not-false}
 use Rattle.base_lists.specs.Ranges.{first, least}
 use Rattle.base_lists.proofs.Ranges.{by-lt, both, and_true, or_parts, first_high, none_first, some_yes}
 use Rattle.base_fields.specs.declared.ByteOrder.{ByteOrder}
@@ -63,7 +63,7 @@ module _ (o : ByteOrder) (C A : List ℕ) (flag : ℕ) (unclashed : clash_findin
   -- a relocation table is for a section that stays
   pub info_stays : (i : ℕ) → i < section_count o C → is_table o C i ≡ true → (section o C i).sh_info < stay
   unfolding leads_out
-  info_stays i h t = ltb-true (section o C i).sh_info stay (not_false _ (rw t at (cut_parts i h).0))
+  info_stays i h t = ltb-true (section o C i).sh_info stay (not-false _ (rw t at (cut_parts i h).0))
 
   -- a symbol in a section that is dropped is a fault
   missed_by : (k : ℕ) → k < symbol_count o C → stay ≤ (symbol o C k).st_shndx → is_missed o C stay (symbol o C k).st_shndx ≡ true

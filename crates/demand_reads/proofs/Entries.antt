@@ -11,7 +11,7 @@ use borrow.Author.Tests.{ltb-true, eqb-true}
 use Rattle.base_lists.proofs.Ranges.{by-test, by-lt, both, first_low_lem}
 use Rattle.base_fields.specs.declared.ByteOrder.{ByteOrder}
 use Rattle.base_scope.specs.Elf.{SHN_UNDEF, SHN_ABS}
-use Rattle.base_scope.specs.Codes.{TEXT, LATE-RODATA_lem, target_code}
+use Rattle.base_scope.specs.Codes.{TEXT, LATE_RODATA, target_code}
 use Rattle.base_scope.specs.declared.Finding.TheVariants.{Clear}
 use Rattle.elf_records.specs.declared.symbol.SymbolEntry.{SymbolEntry}
 use Rattle.elf_readers.specs.Readers.{coded_section}
@@ -42,9 +42,9 @@ unplaced x f = by-test (eqb x SHN_UNDEF)
     (λ a. by-test (eqb x SHN_ABS) (λ t. inr (eqb-true x SHN_ABS t)) (λ b. both (rw (a, b)) f))
 
 -- a section of the five has one of their codes
-source_code : (o : ByteOrder) (A : List ℕ) (s : ℕ) → is_source o A s ≡ true → (1 ≤ code_of o A s) × (code_of o A s ≤ LATE-RODATA_lem)
+source_code : (o : ByteOrder) (A : List ℕ) (s : ℕ) → is_source o A s ≡ true → (1 ≤ code_of o A s) × (code_of o A s ≤ LATE_RODATA)
 unfolding is_source code_of
-source_code o A s t = (first_low_lem (is_section_of o A s) TEXT (LATE-RODATA_lem + 1), omega (arith, ltb-true (code_of o A s) (LATE-RODATA_lem + 1) t))
+source_code o A s t = (first_low_lem (is_section_of o A s) TEXT (LATE_RODATA + 1), omega (arith, ltb-true (code_of o A s) (LATE_RODATA + 1) t))
 
 module _ (o : ByteOrder) (C A : List ℕ) (P : List Place) (B : List ℕ) (mode : ℕ) (S : List Static) where
   abbrev n : ℕ

@@ -14,7 +14,7 @@ use Rattle.base_lists.specs.Strings.{same}
 use Rattle.base_lists.proofs.Ranges.{by-test, by_last, by-lt, both, and_parts, some_next, some_no, count_le, count_same}
 use Rattle.base_lists.proofs.Strings.{same_eq}
 use Rattle.base_fields.specs.declared.ByteOrder.{ByteOrder}
-use Rattle.base_scope.specs.Codes.{BSS, RODATA, LATE-RODATA_lem, section_codes, code_type, target_code}
+use Rattle.base_scope.specs.Codes.{BSS, RODATA, LATE_RODATA, section_codes, code_type, target_code}
 use Rattle.base_scope.specs.Elf.{SHT_NOBITS}
 use Rattle.elf_readers.specs.Readers.{section_count, section, coded_section, coded_contents}
 use Rattle.elf_readers.proofs.Readers.{contents_none, coded_there, coded_absent}
@@ -98,9 +98,9 @@ module _ (o : ByteOrder) (A : List ℕ) (sound : Sound o A) where
       let t : ℕ = carried_table o A j in
       let c : ℕ = carried_code o A t in
       let e = carried_is o A j h in
-      by-test (eqb c LATE-RODATA_lem)
+      by-test (eqb c LATE_RODATA)
       (λ y. rw y (omega arith))
-      (λ n. rw n (omega (arith, not_bss t e, code_last o A t e, eqb-false c LATE-RODATA_lem n)))
+      (λ n. rw n (omega (arith, not_bss t e, code_last o A t e, eqb-false c LATE_RODATA n)))
 
   -- ---- six keys: three sections, with and without addends
 

@@ -1,1 +1,2 @@
 // No code: the theorem that every accepted merge meets demand 3 (proofs/Theorem.antt).
+#![tactic(auto)]

@@ -10,7 +10,7 @@ use borrow.Author.Tests.{eqb-true}
 use Rattle.base_lists.specs.Ranges.{first}
 use Rattle.base_lists.proofs.Ranges.{by-test, by-lt, none_first}
 use Rattle.base_fields.specs.declared.ByteOrder.{ByteOrder}
-use Rattle.base_scope.specs.Codes.{BSS, LATE-RODATA_lem, LATE_TARGET, section_codes, holds_bytes, is_late_target}
+use Rattle.base_scope.specs.Codes.{BSS, LATE_RODATA, LATE_TARGET, section_codes, holds_bytes, is_late_target}
 use Rattle.base_scope.proofs.Codes.{late_is, late_target_lem}
 use Rattle.elf_readers.specs.Readers.{coded_contents}
 use Rattle.blocks_file.specs.Blocks.{block_count}
@@ -53,7 +53,7 @@ unfolding result_section
 own_result o C A P B c x w h e =
     let S : List ℕ = coded_contents o C c in
     let T : List ℕ = coded_contents o A c in
-    own_part o P B S T (coded_contents o A LATE-RODATA_lem) (late_start o A) c x w h
+    own_part o P B S T (coded_contents o A LATE_RODATA) (late_start o A) c x w h
     (λ j l. none_first (λ j. is_written o P B S T c (x + j)) 0 w j e (omega arith) l)
 
 -- ---- bytes under a span
@@ -71,7 +71,7 @@ module _ (o : ByteOrder) (C A B : List ℕ) (all : placing o C B ≡ Placed) whe
       let L = spans_of P B c in
       let S : List ℕ = coded_contents o C c in
       let T : List ℕ = coded_contents o A c in
-      let W : List ℕ = coded_contents o A LATE-RODATA_lem in
+      let W : List ℕ = coded_contents o A LATE_RODATA in
       let s : ℕ = late_start o A in
       by-test (is_late_target c)
       (λ t.
@@ -95,7 +95,7 @@ module _ (o : ByteOrder) (C A : List ℕ) (P : List Place) (B : List ℕ) (agree
   start_inside = omega (arith, end_spans P B LATE_TARGET, last_by (spans_of P B LATE_TARGET) (length S) (agrees.complete.compiled_ends LATE_TARGET target_holds))
 
   -- and every item lies inside A's .late_rodata
-  item_inside : (i k : ℕ) → i < block_count B → k < items P B i → move_source P B (late_start o A) i k + item_length B i k ≤ length (coded_contents o A LATE-RODATA_lem)
+  item_inside : (i k : ℕ) → i < block_count B → k < items P B i → move_source P B (late_start o A) i k + item_length B i k ≤ length (coded_contents o A LATE_RODATA)
   unfolding late_length late_source
   item_inside i k h g =
       omega (
@@ -107,8 +107,8 @@ module _ (o : ByteOrder) (C A : List ℕ) (P : List Place) (B : List ℕ) (agree
 
   pub late_result : late_step_fault o P B (copied (spans_of P B LATE_TARGET) S T) ≡ block_count B → (x w i k : ℕ) → is_moved P B (late_start o A) x ≡ true
       → i < block_count B → k < items P B i → move_source P B (late_start o A) i k ≤ x → 0 < w → x + w ≤ move_source P B (late_start o A) i k + item_length B i k
-      → take w (drop (late_place o C A P B x) (result_section o C A P B LATE_TARGET)) ≡ take w (drop x (coded_contents o A LATE-RODATA_lem))
+      → take w (drop (late_place o C A P B x) (result_section o C A P B LATE_TARGET)) ≡ take w (drop x (coded_contents o A LATE_RODATA))
   unfolding result_section late_place
   late_result clear x w i k t h g a v b =
-      late_part_lem o P B S T (coded_contents o A LATE-RODATA_lem) (late_start o A) LATE_TARGET late_target_lem start_inside clear x w i k t h g a v b
+      late_part_lem o P B S T (coded_contents o A LATE_RODATA) (late_start o A) LATE_TARGET late_target_lem start_inside clear x w i k t h g a v b
       (omega (arith, b, item_inside i k h g))

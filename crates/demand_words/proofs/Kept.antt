@@ -10,7 +10,7 @@ use lib.Dec.{eqb}
 use borrow.Author.Tests.{eqb-true, eqb-false, ltb-true}
 use Rattle.base_lists.proofs.Ranges.{by-test, by-lt, and_parts}
 use Rattle.base_fields.specs.declared.ByteOrder.{ByteOrder}
-use Rattle.base_scope.specs.Codes.{BSS, LATE-RODATA_lem, LINES, target_code}
+use Rattle.base_scope.specs.Codes.{BSS, LATE_RODATA, LINES, target_code}
 use Rattle.elf_readers.specs.Readers.{order_of, section, contents, has_code, coded_contents}
 use Rattle.elf_relocations.specs.Relocations.{relocation}
 use Rattle.elf_check.specs.Sound.{Sound}
@@ -70,16 +70,16 @@ module _ (C A B path : List ℕ) (flag mode : ℕ) (O : List ℕ) (p : MergePass
     unfolding is_carried carried_code
     some_a t = ltb-true 0 (length (coded_contents o A code)) (and_parts (is_source_table o A table) _ t).1
 
-    front_a : is_carried o A table ≡ true → eqb code LATE-RODATA_lem ≡ false → code < BSS
+    front_a : is_carried o A table ≡ true → eqb code LATE_RODATA ≡ false → code < BSS
     unfolding carried_code
     front_a t other =
-        let high : code ≤ LATE-RODATA_lem = code_last o A table t in
+        let high : code ≤ LATE_RODATA = code_last o A table t in
         by-lt code BSS (λ h. h) (λ h.
-        let e : code ≡ BSS = omega (arith, h, high, eqb-false code LATE-RODATA_lem other) in
+        let e : code ≡ BSS = omega (arith, h, high, eqb-false code LATE_RODATA other) in
         let z : length (coded_contents o A code) ≡ 0 = ap length (ap (coded_contents o A) e ∙ bss_empty o A p.inputs.assembled) in
         absurd (omega (arith, z, some_a t)))
 
-    there_a : is_carried o A table ≡ true → eqb code LATE-RODATA_lem ≡ false → has_code o C code ≡ true
+    there_a : is_carried o A table ≡ true → eqb code LATE_RODATA ≡ false → has_code o C code ≡ true
     unfolding carried_code target_code
     there_a t other = rw other at (p.agrees.complete.targets code (code_first o A table) (code_last o A table t) (some_a t))
 
@@ -90,11 +90,11 @@ module _ (C A B path : List ℕ) (flag mode : ℕ) (O : List ℕ) (p : MergePass
         let x : ℕ = (relocation o A table r.entry).r_offset in
         let object = object_a o C A P B r n in
         let carried = (owed_assembled o C A P B r w n).table in
-        by-test (eqb code LATE-RODATA_lem)
+        by-test (eqb code LATE_RODATA)
         (λ late.
         let moved = and_parts (has_late_step P B) _ (moved_late o C A P B r n late offset) in
         rw (target_late o C A P B r n late, new_late o C A P B r n late, object, source_of_lem o C A P B r A object, offset_of_lem o C A P B r A object)
-        (late_word_lem o C A B path flag mode sound p.movable p.inputs.opened.placed p.agrees s x (eqb-true code LATE-RODATA_lem late) moved.0 moved.1 (p.moved moved.0)
+        (late_word_lem o C A B path flag mode sound p.movable p.inputs.opened.placed p.agrees s x (eqb-true code LATE_RODATA late) moved.0 moved.1 (p.moved moved.0)
         (whole_a o C A P B r n late keeps)))
         (λ other.
         rw (target_own o C A P B r n other, new_a o C A P B r n other, object, source_of_lem o C A P B r A object, offset_of_lem o C A P B r A object)

@@ -9,7 +9,7 @@ use borrow.Author.Tests.{eqb-true}
 use Rattle.base_lists.specs.Ranges.{first}
 use Rattle.base_lists.specs.Rows.{has_row}
 use Rattle.base_fields.specs.declared.ByteOrder.{ByteOrder}
-use Rattle.base_scope.specs.Codes.{LATE-RODATA_lem, LATE_TARGET, target_code}
+use Rattle.base_scope.specs.Codes.{LATE_RODATA, LATE_TARGET, target_code}
 use Rattle.elf_readers.specs.Readers.{section, coded_section, coded_contents}
 use Rattle.elf_relocations.specs.Relocations.{relocation}
 use Rattle.blocks_file.specs.Blocks.{block_count}
@@ -55,7 +55,7 @@ module _ (o : ByteOrder) (C A : List ℕ) (P : List Place) (B : List ℕ) (r : R
     offset_a_lem : offset_of o C A P B r ≡ offset
     offset_a_lem = offset_of_lem o C A P B r A (object_a o C A P B r n)
 
-    module _ (other : eqb code LATE-RODATA_lem ≡ false) where
+    module _ (other : eqb code LATE_RODATA ≡ false) where
       pub new_a : new_offset o C A P B r ≡ offset
       new_a = place_a_lem o C A P B r n ∙ rw other
 
@@ -69,7 +69,7 @@ module _ (o : ByteOrder) (C A : List ℕ) (P : List Place) (B : List ℕ) (r : R
       unfolding keeps_word is_copied
       copied_a t = rw (n, late_is o C A P B r n, other, code_a_lem, offset_a_lem) at t
 
-    module _ (late : eqb code LATE-RODATA_lem ≡ true) where
+    module _ (late : eqb code LATE_RODATA ≡ true) where
       pub new_late : new_offset o C A P B r ≡ late_place o C A P B offset
       new_late = place_a_lem o C A P B r n ∙ rw late
 

@@ -14,7 +14,7 @@ use Rattle.base_lists.specs.Rows.{row_in, column_in, has_row}
 use Rattle.base_lists.proofs.Ranges.{by-lt, and_parts, or_parts, first_high, none_first, some_hit}
 use Rattle.base_lists.proofs.Rows.{row_hit}
 use Rattle.base_fields.specs.declared.ByteOrder.{ByteOrder}
-use Rattle.base_scope.specs.Codes.{BSS, LATE-RODATA_lem, LINES, LATE_TARGET}
+use Rattle.base_scope.specs.Codes.{BSS, LATE_RODATA, LINES, LATE_TARGET}
 use Rattle.base_scope.specs.declared.Finding.TheVariants.{Clear}
 use Rattle.base_scope.proofs.Codes.{late_target_lem}
 use Rattle.base_scope.proofs.Refusals.{found_clear}
@@ -124,7 +124,7 @@ module _ (o : ByteOrder) (C A B path : List ℕ) (flag mode : ℕ) (sound : Soun
         ∙ ap (λ (b : List ℕ). take 4 (drop x b)) (code_contents o A s (omega (arith, front)))
 
     -- of A's.late_rodata: in one late word or jump table
-    pub late_word_lem : (s x : ℕ) → code_of o A s ≡ LATE-RODATA_lem → has_late_step P B ≡ true → is_moved P B (late_start o A) x ≡ true
+    pub late_word_lem : (s x : ℕ) → code_of o A s ≡ LATE_RODATA → has_late_step P B ≡ true → is_moved P B (late_start o A) x ≡ true
         → late_step_fault o P B (copied (spans_of P B LATE_TARGET) (coded_contents o C LATE_TARGET) (coded_contents o A LATE_TARGET)) ≡ block_count B
         → has_row (λ i k. leb (move_source P B (late_start o A) i k) x && leb (x + 4) (move_source P B (late_start o A) i k + item_length B i k)) (items P B) (block_count B) ≡ true
         → word_at o O (coded_section o C LATE_TARGET) (late_place o C A P B x) ≡ word_at o A s x

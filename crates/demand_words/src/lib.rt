@@ -1,1 +1,2 @@
 // No code: demand 3, the word of a reference.
+#![tactic(auto)]

@@ -1,6 +1,8 @@
 // Makes the draft of a case and writes it to standard output; a refusal is a line `refused NUMBER OBJECT PLACE`.
 // A case file is three lengths, four bytes each, the most significant first, and then that many bytes of the compiled object, the prelude and the
 // block file.
+#![tactic(auto)]
+
 use libc::STDOUT_FILENO;
 
 fn draft_parts(compiled: &[u8], prelude: &[u8], blocks: &[u8], out: &mut [u8]) {

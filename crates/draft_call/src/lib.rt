@@ -1,5 +1,7 @@
 // The draft: an exported call on numbers and byte slices. It takes any bytes and any buffer lengths, and equals `draft_verdict` of specs/Verdict.antt:
 // number, object and place, or the length; the output holds the text and zeros past it, and the working buffers are zero.
+#![tactic(auto)]
+
 ghost use Rattle.std.specs.Prelude.{◌≡◌, ◌≤◌, length};
 ghost use Rattle.base_lists.specs.Written.{Written};
 ghost use Rattle.base_buffers.specs.Parts.{part_at};

@@ -1,5 +1,7 @@
 // The lines of a draft, each appended to the output at a place that is a 64-bit number: a text that no longer fits is counted and not written.
 // Every function says `Written` of the text in specs/Lines.antt that it appends. Each asks only that its text ends below 2 ^ 64, so that no sum wraps.
+#![tactic(auto)]
+
 ghost use Rattle.std.specs.Prelude.{◌≡◌, ◌+◌, ◌*◌, ◌≤◌, ◌<◌, length};
 ghost use Rattle.base_scope.specs.Text.{text};
 ghost use Rattle.base_scope.specs.Codes.{LINES};

@@ -13,7 +13,7 @@ use Rattle.base_lists.proofs.Written.{written_none, written_then, written_as}
 use Rattle.base_scope.specs.Text.{text}
 use Rattle.base_text.specs.Lines.{lined}
 use Rattle.base_text.proofs.Lines.{length_lined}
-use Rattle.blocks_lines.specs.Keys.{KEY-LATE_lem, is_key_line}
+use Rattle.blocks_lines.specs.Keys.{KEY_LATE, is_key_line}
 use Rattle.blocks_file.specs.Blocks.{group_at, block_at, block_count}
 use Rattle.blocks_places.specs.Places.{Place, live}
 use Rattle.draft_lines.specs.Lines.{group_lines}
@@ -22,7 +22,7 @@ use Rattle.draft_text.specs.Draft.{late_text, late_lines, late_at, has_late, lat
 module _ (P : List Place) (B : List ℕ) where
   -- ---- whether a block has late lines
 
-  pub late_live : (i a : ℕ) → live P B i ≡ true → a ≡ group_at B (block_at B i) KEY-LATE_lem → is_key_line B KEY-LATE_lem a ≡ late_at P B i
+  pub late_live : (i a : ℕ) → live P B i ≡ true → a ≡ group_at B (block_at B i) KEY_LATE → is_key_line B KEY_LATE a ≡ late_at P B i
   unfolding late_at
   late_live i a t e = rw (t, e)
 
@@ -52,7 +52,7 @@ module _ (P : List Place) (B : List ℕ) where
 
   -- a turn of the loop: the lines of a block that stays on come behind those before, and a block that is switched off adds none
   module _ (out : List ℕ) (at i r : ℕ) (p : List ℕ) (w : Written out at (gather (live P B) (late_text B) i) r p) where
-    pub late_turn : (q : ℕ) (u : List ℕ) → live P B i ≡ true → Written p r (group_lines B KEY-LATE_lem (group_at B (block_at B i) KEY-LATE_lem)) q u
+    pub late_turn : (q : ℕ) (u : List ℕ) → live P B i ≡ true → Written p r (group_lines B KEY_LATE (group_at B (block_at B i) KEY_LATE)) q u
         → Written out at (gather (live P B) (late_text B) (i + 1)) q u
     unfolding late_text
     late_turn q u t v = written_as _ _ _ _ _ _ (sym (gather_yes (live P B) (late_text B) i t)) (written_then _ _ _ _ _ _ _ _ w v)

@@ -1,7 +1,7 @@
 -- Which text a line adds, in each case that the code tells apart, and how long it can be. Assumes nothing.
 use Prim.Native.Nat.{ℕ, ◌+◌, ◌-◌, ◌*◌, ◌/◌, ◌≤◌, ◌<◌}
 use mathlib.Core.Path.{◌≡◌, refl, sym, ap, ◌∙◌}
-use mathlib.Core.Bool.{true, false, ◌&&◌, and_false}
+use mathlib.Core.Bool.{true, false, ◌&&◌, and-false}
 use mathlib.Core.List.{List, [], ◌∷◌, ◌++◌, append_assoc, append-nil}
 use native.Mathlib.Omega.{arith}
 use lib.ListN.{length, take, drop, length-take, length-drop}
@@ -14,7 +14,7 @@ use Rattle.base_scope.specs.Codes.{TEXT, LINES, line_code, line_block, first_lin
 use Rattle.base_text.specs.Lines.{lined}
 use Rattle.blocks_values.specs.Values.{space_in, label_in}
 use Rattle.blocks_lines.specs.Lines.{line_end, line}
-use Rattle.blocks_lines.specs.Keys.{KEYS, KEY-ASM_lem, key_name, value_at, repeats}
+use Rattle.blocks_lines.specs.Keys.{KEYS, KEY_ASM, key_name, value_at, repeats}
 use Rattle.blocks_file.specs.Blocks.{skip, group_at, block_at, block_count}
 use Rattle.blocks_file.proofs.Blocks.{group_next, group_end_many, counted_group}
 use Rattle.blocks_places.specs.Lines.{line_count, span_value, labelled, span_label}
@@ -80,7 +80,7 @@ module _ (P : List Place) (B : List ℕ) (j : ℕ) where
       pub line_off : live P B i ≡ false → s ≡ line_text P B j
       unfolding line_text
       line_off f =
-          let g : (eqb (line_code j) LINES && live P B (line_block j)) ≡ false = rw (← block, f) (and_false (eqb (line_code j) LINES)) in
+          let g : (eqb (line_code j) LINES && live P B (line_block j)) ≡ false = rw (← block, f) (and-false (eqb (line_code j) LINES)) in
           rw (pad, g) (sym (append-nil (pad_text P B j)))
 
       pub line_body : line_code j ≡ LINES → live P B i ≡ true → s ++ body_text B i ≡ line_text P B j
@@ -138,7 +138,7 @@ module _ (B : List ℕ) (i k from to : ℕ) (h : i < block_count B) (l : k < KEY
   block_group_short = omega (arith, group_lines_short B k from l block_group_from)
 
 pub body_read : (B : List ℕ) (i : ℕ)
-    → ((labels_text B (text "_asm_start") i ++ lined (text ".text")) ++ group_lines B KEY-ASM_lem (group_at B (block_at B i) KEY-ASM_lem)) ++ labels_text B (text "_asm_end") i ≡ body_text B i
+    → ((labels_text B (text "_asm_start") i ++ lined (text ".text")) ++ group_lines B KEY_ASM (group_at B (block_at B i) KEY_ASM)) ++ labels_text B (text "_asm_end") i ≡ body_text B i
 unfolding body_text asm_text
 body_read B i = simp append_assoc
 

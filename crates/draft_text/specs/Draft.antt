@@ -5,7 +5,7 @@ use Rattle.base_lists.specs.Ranges.{first, gather, pick_list}
 use Rattle.base_scope.specs.Text.{text}
 use Rattle.base_scope.specs.Codes.{TEXT, LINES, line_code, line_block, first_line}
 use Rattle.base_text.specs.Lines.{lined}
-use Rattle.blocks_lines.specs.Keys.{KEY-ASM_lem, KEY-LATE_lem, is_key_line}
+use Rattle.blocks_lines.specs.Keys.{KEY_ASM, KEY_LATE, is_key_line}
 use Rattle.blocks_file.specs.Blocks.{group_at, block_at, block_count}
 use Rattle.blocks_places.specs.Lines.{line_count, labelled, span_label}
 use Rattle.blocks_places.specs.Places.{Place, taken, place, live, end_at}
@@ -26,10 +26,10 @@ module _ (B : List ℕ) where
 
   -- the lines `asm=` and `late=` of block i
   unfoldable pub asm_text : ℕ → List ℕ
-  asm_text i = group_lines B KEY-ASM_lem (group_at B (block_at B i) KEY-ASM_lem)
+  asm_text i = group_lines B KEY_ASM (group_at B (block_at B i) KEY_ASM)
 
   unfoldable pub late_text : ℕ → List ℕ
-  late_text i = group_lines B KEY-LATE_lem (group_at B (block_at B i) KEY-LATE_lem)
+  late_text i = group_lines B KEY_LATE (group_at B (block_at B i) KEY_LATE)
 
   -- what a block that stays on adds
   unfoldable pub body_text : ℕ → List ℕ
@@ -57,7 +57,7 @@ module _ (P : List Place) (B : List ℕ) where
 
   -- block i stays on and has a late line
   unfoldable pub late_at : ℕ → Bool
-  late_at i = live P B i && is_key_line B KEY-LATE_lem (group_at B (block_at B i) KEY-LATE_lem)
+  late_at i = live P B i && is_key_line B KEY_LATE (group_at B (block_at B i) KEY_LATE)
 
   unfoldable pub has_late : Bool
   has_late = ltb (first late_at 0 (block_count B)) (block_count B)

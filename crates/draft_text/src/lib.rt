@@ -1,5 +1,7 @@
 // The text of a draft, appended piece by piece: the prelude, every block's padding and body, and the late part. Each function says `Written` of the text
 // in specs/Draft.antt that it appends, and by how much the place can grow, so that no sum wraps. The places of the lines are those that the table of places holds.
+#![tactic(auto)]
+
 ghost use Rattle.std.specs.Prelude.{◌≡◌, true, ◌+◌, ◌*◌, ◌^◌, ◌≤◌, ◌<◌, length};
 ghost use Rattle.base_lists.specs.Written.{Written};
 ghost use Rattle.base_scope.specs.Codes.{LINES, line_code};

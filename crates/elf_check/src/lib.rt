@@ -1,4 +1,6 @@
 // Document 01's check of one object, compiled or assembled alike: refusals 2 to 6 with number and place; and the view of an object that has passed it.
+#![tactic(auto)]
+
 ghost use Rattle.std.specs.Prelude.{◌≡◌, ◌≤◌};
 ghost use Rattle.elf_readers.specs.Readers.{coded_contents};
 ghost use Rattle.elf_readers.specs.Bounds.{Headed, Named};
@@ -12,7 +14,7 @@ use base_scope::Finding;
 use elf_symbols::SymbolTable;
 
 // The answer of a check: accepted, or a refusal's number and place.
-#[derive(Drop)]
+#[derive(Clone, Copy)]
 pub enum Checked {
     Accepted,
     Refused(u32, usize),
@@ -20,7 +22,7 @@ pub enum Checked {
 
 // The numbers of an accepted object: how many sections it has; the sections of their names, of its symbols and of their names; how many symbols its table says are
 // local; the table in hand; the sections of the codes, each the section count where there is none.
-#[derive(Drop)]
+#[derive(Clone, Copy)]
 pub struct View {
     pub sections: usize,
     pub section_strings: usize,

@@ -1,4 +1,6 @@
 // Refusal 2: the first field of an object's file header that has another value than document 01 asks. Each function equals its definition in specs/.
+#![tactic(auto)]
+
 ghost use Rattle.std.specs.Prelude.{◌≡◌};
 ghost use Rattle.elf_header.specs.FileHeader.{field_fault, header_fault};
 

@@ -1,6 +1,8 @@
 // An index of an object's symbols by name, in a lent table: `index_symbols` makes it (specs/Index.antt), and the first symbol of a name is found among the few of its bucket.
 // What is found equals `symbol_named` of the crate elf_symbols. A name may come in two parts, as a label and its suffix; they are compared as lists, since a label may hold a
 // zero byte, and then no symbol has its name.
+#![tactic(auto)]
+
 ghost use Rattle.std.specs.Prelude.{◌≡◌, ◌++◌, ◌+◌, ◌<◌, ◌≤◌, length};
 ghost use Rattle.base_lists.specs.Windows.{spliced};
 ghost use Rattle.base_fields.specs.declared.ByteOrder.TheVariants.{Big};

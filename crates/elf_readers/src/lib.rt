@@ -1,5 +1,7 @@
 // Reading an object: the byte order, section headers, the bytes of a section and section names. Each function equals the reader of the same
 // name in specs/Readers.antt. What it needs of the file is in specs/Bounds.antt, which its callers have from document 01's checks.
+#![tactic(auto)]
+
 ghost use Rattle.std.specs.Prelude.{◌≡◌, ◌+◌, ◌*◌, ◌≤◌, ◌<◌, length};
 ghost use Rattle.base_fields.specs.Numbers.{number};
 ghost use Rattle.base_scope.specs.Codes.{CODES};

@@ -6,7 +6,7 @@ ghost use Rattle.elf_records.specs.Debug.{debug_at, debug_bytes};
 use base_fields::ByteOrder;
 
 // magic, vstamp, and 23 words: specs/Debug.antt names them in order.
-#[derive(Drop)]
+#[derive(Clone, Copy)]
 pub struct Hdrr {
     pub magic: u32,
     pub vstamp: u32,

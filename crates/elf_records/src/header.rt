@@ -5,7 +5,7 @@ ghost use Rattle.elf_records.specs.Header.{elf_at, elf_bytes, HalfFields};
 
 use base_fields::ByteOrder;
 
-#[derive(Drop)]
+#[derive(Clone, Copy)]
 pub struct ElfHeader {
     pub e_ident: [u8; 16],
     pub e_type: u32,

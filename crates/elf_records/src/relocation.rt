@@ -6,13 +6,13 @@ ghost use Rattle.elf_records.specs.Relocation.{relocation_layout, relocation_at,
 
 use base_fields::ByteOrder;
 
-#[derive(Drop)]
+#[derive(Clone, Copy)]
 pub enum Addend {
     Absent,
     Present(u32),
 }
 
-#[derive(Drop)]
+#[derive(Clone, Copy)]
 pub struct RelocationEntry {
     pub r_offset: u32,
     pub r_info: u32,

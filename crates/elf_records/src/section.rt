@@ -5,7 +5,7 @@ ghost use Rattle.elf_records.specs.Section.{section_at, section_bytes};
 
 use base_fields::ByteOrder;
 
-#[derive(Drop)]
+#[derive(Clone, Copy)]
 pub struct SectionHeader {
     pub sh_name: u32,
     pub sh_type: u32,

@@ -5,7 +5,7 @@ ghost use Rattle.elf_records.specs.Symbol.{symbol_at, symbol_bytes};
 
 use base_fields::ByteOrder;
 
-#[derive(Drop)]
+#[derive(Clone, Copy)]
 pub struct SymbolEntry {
     pub st_name: u32,
     pub st_value: u32,

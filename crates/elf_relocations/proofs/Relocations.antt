@@ -8,7 +8,7 @@ use Prim.Native.Nat.{ℕ, ◌+◌, ◌*◌, ◌/◌, ◌≤◌, ◌<◌}
 use native.Mathlib.Omega.{arith}
 use lib.ListN.{length}
 use lib.Dec.{eqb, ltb}
-use borrow.Author.Tests.{eq-eqb, ne_eqb, eqb-true, ltb-true, lt-ltb, le-ltb, not_false}
+use borrow.Author.Tests.{eq-eqb, ne_eqb, eqb-true, ltb-true, lt-ltb, le-ltb, not-false}
 use Rattle.base_lists.specs.Ranges.{first}
 use Rattle.base_lists.proofs.Ranges.{and_parts, by-test}
 use Rattle.base_fields.specs.declared.ByteOrder.{ByteOrder}
@@ -133,7 +133,7 @@ module _ (o : ByteOrder) (F : List ℕ) where
   unfolding relocation_fault bad_table
   fault_tables e t l is =
       let b : (is_table o F t && not (relocation_table_sound o F t)) ≡ false = none_found (bad_table o F) (section_count o F) e t l in
-      not_false (relocation_table_sound o F t) (rw is at b)
+      not-false (relocation_table_sound o F t) (rw is at b)
 
 -- what the conjuncts of `relocation_table_sound` say
 pub record SoundTable (o : ByteOrder) (F : List ℕ) (t : ℕ) : Type 0 where

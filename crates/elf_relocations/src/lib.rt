@@ -1,4 +1,6 @@
 // The relocation tables of an object: which they are, how many entries they have, and refusal 6. Each equals its definition in specs/.
+#![tactic(auto)]
+
 ghost use Rattle.std.specs.Prelude.{◌≡◌, ◌≤◌, ◌<◌};
 ghost use Rattle.base_lists.specs.Ranges.{first};
 ghost use Rattle.base_fields.specs.Layouts.{width_of};

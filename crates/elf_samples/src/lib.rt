@@ -1,1 +1,2 @@
 // Small objects on which definitions are computed (specs/Samples.antt). No code.
+#![tactic(auto)]

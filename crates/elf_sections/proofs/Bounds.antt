@@ -8,7 +8,7 @@ use Prim.Native.Nat.{ℕ, ◌+◌, ◌≤◌, ◌<◌}
 use native.Mathlib.Omega.{arith}
 use lib.ListN.{length}
 use lib.Dec.{leb, eqb, ltb}
-use borrow.Author.Tests.{leb-true, ltb-true, ne_eqb, eqb-true, lt-ltb, not_false}
+use borrow.Author.Tests.{leb-true, ltb-true, ne_eqb, eqb-true, lt-ltb, not-false}
 use Rattle.base_lists.specs.Ranges.{least}
 use Rattle.base_lists.specs.Strings.{has_end, ascii}
 use Rattle.base_lists.proofs.Ranges.{by-test, and_parts, least_below}
@@ -41,7 +41,7 @@ module _ (o : ByteOrder) (F : List ℕ) where
   sections_sound e i l = sound_of i (none_found (bad_section o F) (section_count o F) (expect_clear _ 0 _ e).1 i l)
     where
       sound_of : (i : ℕ) → bad_section o F i ≡ false → section_sound o F i ≡ true
-      sound_of i b = not_false (section_sound o F i) b
+      sound_of i b = not-false (section_sound o F i) b
 
   -- the parts of a sound section
   module _ (i : ℕ) (s : section_sound o F i ≡ true) where
@@ -101,7 +101,7 @@ module _ (o : ByteOrder) (F : List ℕ) where
   names_sound e i l = parts i (none_found (bad_name o F) (section_count o F) (expect_clear _ 0 _ e).1 i l)
     where
       parts : (i : ℕ) → bad_name o F i ≡ false → (has_end (section_strings o F) (section o F i).sh_name ≡ true) × (ascii (section_name o F i) ≡ true)
-      parts i b = and_parts (has_end (section_strings o F) (section o F i).sh_name) (ascii (section_name o F i)) (not_false (name_sound o F i) b)
+      parts i b = and_parts (has_end (section_strings o F) (section o F i).sh_name) (ascii (section_name o F i)) (not-false (name_sound o F i) b)
 
   -- ---- types
 
@@ -125,4 +125,4 @@ module _ (o : ByteOrder) (F : List ℕ) where
   types_sound e i l u =
       let m : (ltb (coded_section o F (i + 1)) (section_count o F) && not (eqb (section o F (coded_section o F (i + 1))).sh_type (code_type (i + 1)))) ≡ false = none_mistyped e i l in
       let n : not (eqb (section o F (coded_section o F (i + 1))).sh_type (code_type (i + 1))) ≡ false = rw (lt-ltb _ _ u) at m in
-      eqb-true _ _ (not_false _ n)
+      eqb-true _ _ (not-false _ n)

@@ -1,5 +1,7 @@
 // Document 01's checks of an object's section headers and section names: refusals 3, 4 and 3 by name, each equal to its definition in specs/.
 // They are called in that order, behind refusal 2, and each requires what the ones before it found.
+#![tactic(auto)]
+
 ghost use Rattle.std.specs.Prelude.{◌≡◌, cond, ◌+◌, min, ◌≤◌, ◌<◌, length};
 ghost use Rattle.base_lists.specs.Ranges.{first};
 ghost use Rattle.base_scope.specs.Codes.{CODES};

@@ -8,7 +8,7 @@ use Prim.Native.Nat.{ℕ, ◌/◌, ◌≤◌, ◌<◌}
 use native.Mathlib.Omega.{arith}
 use lib.ListN.{length}
 use lib.Dec.{eqb, ltb, leb}
-use borrow.Author.Tests.{eq-eqb, ne_eqb, eqb-true, lt-ltb, le-ltb, ltb-true, leb-true, not_false}
+use borrow.Author.Tests.{eq-eqb, ne_eqb, eqb-true, lt-ltb, le-ltb, ltb-true, leb-true, not-false}
 use Rattle.base_lists.specs.Ranges.{first, past_last}
 use Rattle.base_lists.specs.Strings.{zero_at, has_end}
 use Rattle.base_lists.proofs.Ranges.{and_parts, by-lt}
@@ -144,7 +144,7 @@ module _ (o : ByteOrder) (F : List ℕ) where
 
   pub fault_symbols : symbol_fault o F ≡ Clear → (k : ℕ) → k < symbol_count o F → symbol_sound o F k ≡ true
   unfolding symbol_fault bad_symbol
-  fault_symbols e k l = not_false _ (none_found (bad_symbol o F) (symbol_count o F) (expect_clear _ 0 _ e).1 k l)
+  fault_symbols e k l = not-false _ (none_found (bad_symbol o F) (symbol_count o F) (expect_clear _ 0 _ e).1 k l)
 
 -- ---- what a sound symbol has
 

@@ -1,4 +1,6 @@
 // Refusal 5: an object's symbol table, and the lowest of its symbols that is at fault. Each function equals its definition in specs/.
+#![tactic(auto)]
+
 ghost use Rattle.std.specs.Prelude.{◌≡◌, ◌<◌};
 ghost use Rattle.base_lists.specs.Ranges.{first};
 ghost use Rattle.elf_readers.specs.Bounds.{Headed};

@@ -1,4 +1,6 @@
 // The symbols of an object: the first SYMTAB, its entries and names. Each equals its definition in specs/; the crate elf_index finds the first symbol of a name.
+#![tactic(auto)]
+
 ghost use Rattle.std.specs.Prelude.{◌≡◌, ◌-◌, ◌≤◌, ◌<◌, length, take, drop};
 ghost use Rattle.elf_readers.specs.Readers.{section_count, header_place};
 ghost use Rattle.elf_readers.specs.Bounds.{Headed};
@@ -33,7 +35,7 @@ pub fn symtab_index(order: ByteOrder, file: &[u8]) -> usize
 }
 
 // A symbol table in hand: where its entries start in the file, how many there are, and from where to where their strings lie.
-#[derive(Drop)]
+#[derive(Clone, Copy)]
 pub struct SymbolTable {
     pub at: usize,
     pub count: usize,

@@ -1,5 +1,7 @@
 // The items of one block in the late step: its dummies, each searched from the last place on, and its jump table behind them; refusal 14 of any of them. Each
 // function equals its definition in specs/.
+#![tactic(auto)]
+
 ghost use Rattle.std.specs.Prelude.{◌≡◌, ◌&&◌, ◌+◌, ◌*◌, ◌≤◌, ◌<◌, length, eqb, ltb};
 ghost use Rattle.base_lists.specs.Windows.{spliced};
 ghost use Rattle.base_scope.specs.Limits.{FILE_LIMIT};

@@ -1,5 +1,7 @@
 // Dummies in .rodata (document 01, "Late words"): the search for one, at any byte of the part that it is given, and the place of its late word. Each function
 // equals its definition in specs/.
+#![tactic(auto)]
+
 ghost use Rattle.std.specs.Prelude.{◌≡◌, ◌+◌, ◌≤◌, length};
 ghost use Rattle.late_dummies.specs.Dummies.{word_at, found};
 ghost use Rattle.late_dummies.specs.Spots.{shift_spot, spot};
@@ -7,7 +9,7 @@ ghost use Rattle.late_dummies.specs.Spots.{shift_spot, spot};
 use base_fields::ByteOrder;
 
 // A place in .rodata, or refusal 14.
-#[derive(Drop)]
+#[derive(Clone, Copy)]
 pub enum Spot {
     At(usize),
     Lost,

@@ -1,1 +1,2 @@
 // The late step after block copying, from the one over C's own .rodata (proofs/Copied.antt). No code.
+#![tactic(auto)]

@@ -1,5 +1,7 @@
 // The late length over all blocks. It equals `late_length` of the crate blocks_items, and there is a late step exactly where it is not 0 (proofs/Late.antt,
 // `step_length`).
+#![tactic(auto)]
+
 ghost use Rattle.std.specs.Prelude.{◌≡◌, ◌+◌, ◌*◌, ◌≤◌, ◌<◌, length};
 ghost use Rattle.base_scope.specs.Limits.{NUMBER_LIMIT, BLOCK_LIMIT, DUMMY_LIMIT, PLACE_ROW};
 ghost use Rattle.blocks_file.specs.Blocks.{block_count};
@@ -10,7 +12,7 @@ ghost use Rattle.blocks_items.specs.Items.{late_bytes, late_length};
 
 // The late step as 11 to 13 leave it: whether there is one, the late length, where the late span starts in the assembled object's .late_rodata, and the end of the
 // last .rodata span.
-#[derive(Drop)]
+#[derive(Clone, Copy)]
 pub struct LateStep {
     pub runs: bool,
     pub length: usize,

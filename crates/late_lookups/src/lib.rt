@@ -1,6 +1,8 @@
 // What the merge asks of a late step that is accepted: the place of a late offset, and whether a word of a jump table stands somewhere. Both are found by binary search
 // in the table of crates/late_walk; each function equals its definition in specs/Fields.antt. That these are the definitions of the late step is a law of the table
 // (proofs/Lookups.antt, `offset_moved` and `jump_moved`).
+#![tactic(auto)]
+
 ghost use Rattle.std.specs.Prelude.{◌≡◌, ◌+◌, ◌*◌, ◌^◌, ◌≤◌, ◌<◌, length};
 ghost use Rattle.base_scope.specs.Limits.{BLOCK_LIMIT, LATE_ROW};
 ghost use Rattle.late_lookups.specs.Fields.{SOURCE, late_field, row_dummies, row_bytes, row_past, place_in_row, is_start, offset_at, is_table_word, jump_at, AtRow, LateRows};
@@ -8,7 +10,7 @@ ghost use Rattle.late_lookups.specs.Fields.{SOURCE, late_field, row_dummies, row
 use base_fields::ByteOrder;
 
 // Where a late offset goes.
-#[derive(Drop)]
+#[derive(Clone, Copy)]
 pub enum LatePlace {
     Moved(usize),
     Unmoved,

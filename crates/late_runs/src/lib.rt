@@ -1,6 +1,8 @@
 // The final .rodata as runs, for the writer: at a position at or past the end of the last .rodata block copied, the bytes of one kind that begin there, read in the
 // table of the late step. Each function equals its definition in specs/; that a run's bytes are those of the final .rodata is a law (proofs/InHand.antt,
 // `hand_run_at`, and proofs/Runs.antt, `run_is`).
+#![tactic(auto)]
+
 ghost use Rattle.std.specs.Prelude.{◌≡◌, ◌+◌, ◌^◌, ◌≤◌, ◌<◌, length};
 ghost use Rattle.base_scope.specs.Limits.{FILE_LIMIT};
 ghost use Rattle.blocks_file.specs.Blocks.{block_count};
@@ -12,7 +14,7 @@ ghost use Rattle.late_runs.specs.Words.{dummy_place, dummy_over, moved_on, gap_t
 use base_fields::ByteOrder;
 
 // A run of bytes of one kind: so many bytes as they were; A's late bytes from an offset on, so many; so many zeros.
-#[derive(Drop)]
+#[derive(Clone, Copy)]
 pub enum Run {
     Kept(usize),
     Late(usize, usize),

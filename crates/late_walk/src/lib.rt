@@ -1,5 +1,7 @@
 // The late step: where each dummy's late word and each jump table goes, and refusal 14, in one walk over the blocks. The code searches .rodata and moves nothing:
 // the writer reads the table that is left here. Each function equals its definition in specs/.
+#![tactic(auto)]
+
 ghost use Rattle.std.specs.Prelude.{◌≡◌, ◌+◌, ◌*◌, ◌≤◌, ◌<◌, length};
 ghost use Rattle.base_lists.specs.Windows.{spliced};
 ghost use Rattle.base_scope.specs.Limits.{FILE_LIMIT, BLOCK_LIMIT, DUMMY_LIMIT, LATE_ROW, LATE_WORDS, LATE_TABLE};
@@ -15,7 +17,7 @@ use late_dummies::Spot;
 use late_length::LateStep;
 
 // What stands before a block: the late offset, the number of dummies and the last place.
-#[derive(Drop)]
+#[derive(Clone, Copy)]
 pub struct LateRow {
     pub source: usize,
     pub dummies: usize,
@@ -23,7 +25,7 @@ pub struct LateRow {
 }
 
 // What stands before the next block, or refusal 14.
-#[derive(Drop)]
+#[derive(Clone, Copy)]
 pub enum BlockStep {
     Next(LateRow),
     Stop,

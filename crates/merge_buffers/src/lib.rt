@@ -1,5 +1,6 @@
 // The working buffers of a merge: where each table starts in its buffer, and the least length of each buffer. The definitions in specs/Buffers.antt have the same names; a
 // contract that cites one holds the constant here to it.
+#![tactic(auto)]
 
 pub const ROWS_AT: usize = 49152;
 

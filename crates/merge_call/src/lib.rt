@@ -1,6 +1,8 @@
 // The merge on numbers and byte slices; the crate daphulle exports it, with demand 3 in its contract. It takes any bytes, numbers and buffer lengths, and equals `merge_verdict`
 // (crate merge_verdict, specs/Verdict.antt): number, object and place, or the length; the output holds the merged object and zeros past it, and the working buffers are zero. The
 // stages come in document 01's order of refusals.
+#![tactic(auto)]
+
 ghost use Rattle.std.specs.Prelude.{◌≡◌, not, ◌||◌, ◌≤◌, length};
 ghost use Rattle.base_scope.specs.Limits.{FILE_LIMIT, over_limits};
 ghost use Rattle.base_answers.specs.Answered.{Answered};

@@ -1,5 +1,7 @@
 // The inputs of a merge, taken in: what it begins with, as the draft does (2 to 9), then the assembled object by 2 to 6. Each function equals its definition in specs/;
 // where all pass, the two tables hold the blocks and the places of their lines, and both objects are read by their views.
+#![tactic(auto)]
+
 ghost use Rattle.std.specs.Prelude.{◌≡◌, ◌≤◌, length};
 ghost use Rattle.base_buffers.specs.Parts.{part_at};
 ghost use Rattle.base_scope.specs.Limits.{FILE_LIMIT, BLOCK_TABLE, PLACE_TABLE, OPEN_TABLE};
@@ -13,7 +15,7 @@ use elf_check::View;
 use open_inputs::Opened;
 
 // What is in hand of accepted inputs: the byte order, the views of the compiled and of the assembled object, and the number of blocks.
-#[derive(Drop)]
+#[derive(Clone, Copy)]
 pub struct Inputs {
     pub order: ByteOrder,
     pub compiled: View,

@@ -1,4 +1,6 @@
 // What stays of an object's sections when the drop flag is set: `kept` of specs/Kept.antt.
+#![tactic(auto)]
+
 ghost use Rattle.std.specs.Prelude.{◌≡◌, ◌<◌};
 ghost use Rattle.base_lists.specs.Ranges.{past_last};
 ghost use Rattle.elf_readers.specs.Readers.{section_count};

@@ -10,7 +10,7 @@ use Rattle.base_lists.specs.Ranges.{first}
 use Rattle.base_lists.proofs.Ranges.{by-test, first_here, first_end}
 use Rattle.base_fields.specs.declared.ByteOrder.{ByteOrder}
 use Rattle.elf_records.specs.declared.symbol.SymbolEntry.{SymbolEntry}
-use Rattle.base_scope.specs.Codes.{LATE-RODATA_lem, line_code, line_block}
+use Rattle.base_scope.specs.Codes.{LATE_RODATA, line_code, line_block}
 use Rattle.base_scope.specs.declared.Finding.TheVariants.{Clear, At}
 use Rattle.base_scope.specs.Text.{text}
 use Rattle.elf_readers.specs.Readers.{coded_section, coded_contents}
@@ -79,7 +79,7 @@ at_elsewhere o A name s v l is d = by-test l.found
     (λ t. sym (at_read o A name s v l is t) ∙ rw (ne_eqb l.section s d))
     (λ f. sym (at_none o A name s v l is f))
 
-module _ (o : ByteOrder) (A : List ℕ) (n s : ℕ) (start : Label) (is : start ≡ label_of o A (late_label (text "_start"))) (section : s ≡ coded_section o A LATE-RODATA_lem) where
+module _ (o : ByteOrder) (A : List ℕ) (n s : ℕ) (start : Label) (is : start ≡ label_of o A (late_label (text "_start"))) (section : s ≡ coded_section o A LATE_RODATA) where
   starts : start.value ≡ late_start o A
   unfolding late_start
   starts = ap (λ (l : Label). l.value) is
@@ -87,7 +87,7 @@ module _ (o : ByteOrder) (A : List ℕ) (n s : ℕ) (start : Label) (is : start 
   first_at : start.found ≡ true → start.section ≡ s → is_at o A (late_label (text "_start")) s start.value ≡ true
   first_at t e = sym (at_read o A (late_label (text "_start")) s start.value start is t) ∙ rw (eq-eqb start.section s e, eq-eqb start.value start.value refl)
 
-  pub late_read : (w : List ℕ) → w ≡ coded_contents o A LATE-RODATA_lem → start.found ≡ true → start.section ≡ s
+  pub late_read : (w : List ℕ) → w ≡ coded_contents o A LATE_RODATA → start.found ≡ true → start.section ≡ s
       → (is_at o A (late_label (text "_end")) s (start.value + n) && leb (start.value + n) (length w)) ≡ late_lined o A n
   unfolding late_lined
   late_read w q t e = rw (← starts, ← section, ← q, first_at t e)

@@ -3,7 +3,7 @@
 use Rattle.std.specs.Prelude.{ℕ, ◌+◌, Bool, true, false, not, ◌&&◌, List, ◌++◌, length, eqb, ltb, leb}
 use Rattle.base_lists.specs.Ranges.{first}
 use Rattle.base_fields.specs.declared.ByteOrder.{ByteOrder}
-use Rattle.base_scope.specs.Codes.{LATE-RODATA_lem, line_code, line_block}
+use Rattle.base_scope.specs.Codes.{LATE_RODATA, line_code, line_block}
 use Rattle.base_scope.specs.declared.Finding.{Finding}
 use Rattle.base_scope.specs.declared.Finding.TheVariants.{Clear, At}
 use Rattle.base_scope.specs.Refusals.{pick_finding}
@@ -59,6 +59,6 @@ module _ (o : ByteOrder) (A : List ℕ) where
   -- refusal 13 asks this of a late step of n bytes: both late labels stand in A's.late_rodata, n apart, and the end lies inside it
   unfoldable pub late_lined : ℕ → Bool
   late_lined n =
-      is_at o A (late_label (text "_start")) (coded_section o A LATE-RODATA_lem) late_start
-      && (is_at o A (late_label (text "_end")) (coded_section o A LATE-RODATA_lem) (late_start + n)
-      && leb (late_start + n) (length (coded_contents o A LATE-RODATA_lem)))
+      is_at o A (late_label (text "_start")) (coded_section o A LATE_RODATA) late_start
+      && (is_at o A (late_label (text "_end")) (coded_section o A LATE_RODATA) (late_start + n)
+      && leb (late_start + n) (length (coded_contents o A LATE_RODATA)))

@@ -1,5 +1,7 @@
 // Refusals 12 and 13: whether the labels of the spans, and those of the late span, stand where document 01 has them. Each function equals its definition in specs/. The symbol
 // of a label and its suffix is found by an index of A's symbols by name (the crate elf_index).
+#![tactic(auto)]
+
 ghost use Rattle.std.specs.Prelude.{◌≡◌, true, ◌++◌, ◌+◌, ◌<◌};
 ghost use Rattle.base_scope.specs.Text.{text};
 ghost use Rattle.elf_symbols.specs.Symbols.{Table};
@@ -17,7 +19,7 @@ use elf_check::View;
 use elf_symbols::SymbolTable;
 
 // A label's symbol: whether there is one, its section and its value.
-#[derive(Drop)]
+#[derive(Clone, Copy)]
 pub struct Label {
     pub found: bool,
     pub section: usize,

@@ -6,10 +6,10 @@ use mathlib.Core.List.{List}
 use native.Mathlib.Omega.{arith}
 use lib.ListN.{length}
 use lib.Dec.{ltb}
-use borrow.Author.Tests.{lt-ltb, leb-true, not_false, ltb-true}
+use borrow.Author.Tests.{lt-ltb, leb-true, not-false, ltb-true}
 use Rattle.base_lists.proofs.Ranges.{by-lt, both, and_parts, first_high, none_first}
 use Rattle.base_fields.specs.declared.ByteOrder.{ByteOrder}
-use Rattle.base_scope.specs.Codes.{LATE-RODATA_lem, line_block}
+use Rattle.base_scope.specs.Codes.{LATE_RODATA, line_block}
 use Rattle.base_scope.specs.declared.Finding.TheVariants.{Clear, At}
 use Rattle.base_scope.specs.Refusals.{BLOCK_LABELS, LATE_LABELS}
 use Rattle.base_scope.specs.Text.{text}
@@ -61,7 +61,7 @@ module _ (o : ByteOrder) (C A : List ℕ) (P : List Place) (B : List ℕ) (e : l
   unfolding mislabelled_at is_mislabelled
   labels_stand j h t =
       let f : is_mislabelled o A P B j ≡ false = none_first (is_mislabelled o A P B) 0 (line_count B) j none_mislabelled (omega arith) h in
-      not_false _ (rw t at f)
+      not-false _ (rw t at f)
 
   late_stand : has_late_step P B ≡ true → late_lined o A (late_length P B) ≡ true
   unfolding late_label_fault
@@ -69,11 +69,11 @@ module _ (o : ByteOrder) (C A : List ℕ) (P : List Place) (B : List ℕ) (e : l
       let s : ltb 0 (late_length P B) ≡ true = sym (step_length P B) ∙ t in
       (expect_clear (late_lined o A (late_length P B)) 0 Clear (rw s at labels_clear.1)).0
 
-  late_held : has_late_step P B ≡ true → late_start o A + late_length P B ≤ length (coded_contents o A LATE-RODATA_lem)
+  late_held : has_late_step P B ≡ true → late_start o A + late_length P B ≤ length (coded_contents o A LATE_RODATA)
   unfolding late_lined
   late_held t =
-      let s = is_at o A (late_label (text "_start")) (coded_section o A LATE-RODATA_lem) (late_start o A) in
-      let f = is_at o A (late_label (text "_end")) (coded_section o A LATE-RODATA_lem) (late_start o A + late_length P B) in
+      let s = is_at o A (late_label (text "_start")) (coded_section o A LATE_RODATA) (late_start o A) in
+      let f = is_at o A (late_label (text "_end")) (coded_section o A LATE_RODATA) (late_start o A + late_length P B) in
       leb-true _ _ (and_parts f _ (and_parts s _ (late_stand t)).1).1
 
   pub agrees_of : Agrees o C A P B

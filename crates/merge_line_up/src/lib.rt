@@ -1,5 +1,7 @@
 // Whether the assembled object lines up with the compiled one and the block file: refusals 11, 12 and 13 in order. Where all pass, what they found of the late step is
 // handed on. Each function equals its definition in specs/.
+#![tactic(auto)]
+
 ghost use Rattle.std.specs.Prelude.{◌≡◌, ◌+◌, ◌*◌, ◌<◌, ◌≤◌};
 ghost use Rattle.base_scope.specs.Text.{text};
 ghost use Rattle.base_scope.specs.Limits.{NUMBER_LIMIT, BLOCK_LIMIT, DUMMY_LIMIT};
@@ -22,7 +24,7 @@ use merge_inputs::Inputs;
 use merge_labels::Label;
 
 // The late step, or a refusal's number, object and place.
-#[derive(Drop)]
+#[derive(Clone, Copy)]
 pub enum LinedUp {
     Lined(LateStep),
     Refused(u32, u32, u64),

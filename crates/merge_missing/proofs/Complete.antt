@@ -6,11 +6,11 @@ use mathlib.Core.List.{List}
 use native.Mathlib.Omega.{arith}
 use lib.ListN.{length, take, drop}
 use lib.Dec.{eqb, ltb}
-use borrow.Author.Tests.{lt-ltb, ltb-true, eq-eqb, eqb-true, not_false}
+use borrow.Author.Tests.{lt-ltb, ltb-true, eq-eqb, eqb-true, not-false}
 use Rattle.base_lists.specs.Ranges.{first, count}
 use Rattle.base_lists.proofs.Ranges.{by-test, both, by-lt, and_parts, first_high, none_first, or_parts, no_some}
 use Rattle.base_fields.specs.declared.ByteOrder.{ByteOrder}
-use Rattle.base_scope.specs.Codes.{TEXT, LATE-RODATA_lem, REGINFO, CODES, LINES, holds_bytes, leaves_out, is_late_target, target_code, line_code}
+use Rattle.base_scope.specs.Codes.{TEXT, LATE_RODATA, REGINFO, CODES, LINES, holds_bytes, leaves_out, is_late_target, target_code, line_code}
 use Rattle.base_scope.specs.declared.Finding.TheVariants.{Clear}
 use Rattle.base_scope.specs.Refusals.{MISSING_SECTION}
 use Rattle.base_scope.proofs.Codes.{past_holds, past_leaves, past_late}
@@ -84,7 +84,7 @@ module _ (P : List Place) (B : List ℕ) where
   even_line c j f l h t =
       let u = and_off (leaves_out c) _ f l in
       let g = and_off (is_span P B c j) _ (no_some (is_uneven P B c) 0 (line_count B) j u (omega arith) h) t in
-      let r = and_parts (eqb (place P j % 4) 0) _ (not_false (eqb (place P j % 4) 0 && eqb (span_size B j % 4) 0) g) in
+      let r = and_parts (eqb (place P j % 4) 0) _ (not-false (eqb (place P j % 4) 0 && eqb (span_size B j % 4) 0) g) in
       (eqb-true _ _ r.0, eqb-true _ _ r.1)
 
   even_span : (c r : ℕ) → has_uneven P B c ≡ false → leaves_out c ≡ true → r < length (spans_of P B c)
@@ -105,9 +105,9 @@ module _ (P : List Place) (B : List ℕ) where
   unfolding has_span
   spanned c h = lt-ltb _ _ h
 
-target_range : (a : ℕ) → TEXT ≤ a → a ≤ LATE-RODATA_lem → (1 ≤ target_code a) × (target_code a ≤ CODES)
+target_range : (a : ℕ) → TEXT ≤ a → a ≤ LATE_RODATA → (1 ≤ target_code a) × (target_code a ≤ CODES)
 unfolding target_code
-target_range a l u = by-test (eqb a LATE-RODATA_lem) (λ t. rw t (omega arith, omega arith)) (λ f. rw f (l, omega arith))
+target_range a l u = by-test (eqb a LATE_RODATA) (λ t. rw t (omega arith, omega arith)) (λ f. rw f (l, omega arith))
 
 module _ (o : ByteOrder) (C A : List ℕ) (P : List Place) (B : List ℕ) (e : missing_verdict o C A P B ≡ Passed) where
   clear : (lowest_code (missing_c o C A P B) ≡ Clear) × (lowest_code (missing_a o C A P B) ≡ Clear)
@@ -144,7 +144,7 @@ module _ (o : ByteOrder) (C A : List ℕ) (P : List Place) (B : List ℕ) (e : m
   unfolding wanted_c
   wants_late c t s = or_right (holds_bytes c && has_span P B c) _ (rw (t, s))
 
-  wants_target : (a : ℕ) → TEXT ≤ a → a ≤ LATE-RODATA_lem → 0 < length (coded_contents o A a) → wanted_c o C A P B (target_code a) ≡ true
+  wants_target : (a : ℕ) → TEXT ≤ a → a ≤ LATE_RODATA → 0 < length (coded_contents o A a) → wanted_c o C A P B (target_code a) ≡ true
   unfolding wanted_c goes_to
   wants_target a l u h =
       let g : goes_to o A (target_code a) a ≡ true = rw (lt-ltb 0 (length (coded_contents o A a)) h, eq-eqb (target_code a) (target_code a) refl) in
@@ -155,9 +155,9 @@ module _ (o : ByteOrder) (C A : List ℕ) (P : List Place) (B : List ℕ) (e : m
   unfolding wanted_a
   wants_a c t = rw t
 
-  wants_source : has_late_step P B ≡ true → wanted_a o C A P B LATE-RODATA_lem ≡ true
+  wants_source : has_late_step P B ≡ true → wanted_a o C A P B LATE_RODATA ≡ true
   unfolding wanted_a
-  wants_source t = or_right (has_span P B LATE-RODATA_lem) _ (rw t)
+  wants_source t = or_right (has_span P B LATE_RODATA) _ (rw t)
 
   wants_reginfo : has_code o C REGINFO ≡ true → wanted_a o C A P B REGINFO ≡ true
   unfolding wanted_a
@@ -171,7 +171,7 @@ module _ (o : ByteOrder) (C A : List ℕ) (P : List Place) (B : List ℕ) (e : m
     assembled_span = λ c h. let r = span_coded P B c h in got_a c r.0 r.1 (wants_a c (spanned P B c h));
     words = λ c x t h. let r = span_coded P B c (omega arith) in even_span P B c x (parts_c c r.0 r.1).1 t h;
     late_target = λ t c y. let r = by_column is_late_target past_late c y in got_c c r.0 r.1 (wants_late c y t);
-    late_source = λ t. got_a LATE-RODATA_lem (omega arith) (omega arith) (wants_source t);
+    late_source = λ t. got_a LATE_RODATA (omega arith) (omega arith) (wants_source t);
     reginfo = λ t. got_a REGINFO (omega arith) (omega arith) (wants_reginfo t);
     targets = λ a l u h. got_c (target_code a) (target_range a l u).0 (target_range a l u).1 (wants_target a l u h);
   }

@@ -11,7 +11,7 @@ use borrow.Author.Tests.{lt-ltb, le-ltb, eq-eqb, ne_eqb, eqb-true}
 use Rattle.base_lists.specs.Ranges.{first}
 use Rattle.base_lists.proofs.Ranges.{by-test, by-lt, first_here, first_end, first_ext, some_no, some_yes}
 use Rattle.base_fields.specs.declared.ByteOrder.{ByteOrder}
-use Rattle.base_scope.specs.Codes.{TEXT, LATE-RODATA_lem, REGINFO, CODES, holds_bytes, leaves_out, is_late_target, target_code, line_code}
+use Rattle.base_scope.specs.Codes.{TEXT, LATE_RODATA, REGINFO, CODES, holds_bytes, leaves_out, is_late_target, target_code, line_code}
 use Rattle.base_scope.specs.declared.Finding.{Finding}
 use Rattle.base_scope.specs.declared.Finding.TheVariants.{Clear, At}
 use Rattle.base_scope.specs.Refusals.{MISSING_SECTION, found_below}
@@ -77,15 +77,15 @@ module _ (o : ByteOrder) (A : List ℕ) (c : ℕ) where
   unfolding goes_to
   goes_read a t w e f = rw (e, f)
 
-  pub target_here : (a : ℕ) → TEXT ≤ a → a ≤ LATE-RODATA_lem → goes_to o A c a ≡ true → true ≡ is_target o A c
+  pub target_here : (a : ℕ) → TEXT ≤ a → a ≤ LATE_RODATA → goes_to o A c a ≡ true → true ≡ is_target o A c
   unfolding is_target
-  target_here a l h t = sym (some_yes (goes_to o A c) TEXT (LATE-RODATA_lem + 1) a l (omega arith) t)
+  target_here a l h t = sym (some_yes (goes_to o A c) TEXT (LATE_RODATA + 1) a l (omega arith) t)
 
-  pub target_none : (a : ℕ) → LATE-RODATA_lem < a → first (goes_to o A c) TEXT (LATE-RODATA_lem + 1) ≡ first (goes_to o A c) a (LATE-RODATA_lem + 1) → false ≡ is_target o A c
+  pub target_none : (a : ℕ) → LATE_RODATA < a → first (goes_to o A c) TEXT (LATE_RODATA + 1) ≡ first (goes_to o A c) a (LATE_RODATA + 1) → false ≡ is_target o A c
   unfolding is_target
   target_none a h e =
-      let f : first (goes_to o A c) a (LATE-RODATA_lem + 1) ≡ a = first_end (goes_to o A c) a (LATE-RODATA_lem + 1) (omega arith) in
-      sym (le-ltb (first (goes_to o A c) TEXT (LATE-RODATA_lem + 1)) (LATE-RODATA_lem + 1) (omega arith))
+      let f : first (goes_to o A c) a (LATE_RODATA + 1) ≡ a = first_end (goes_to o A c) a (LATE_RODATA + 1) (omega arith) in
+      sym (le-ltb (first (goes_to o A c) TEXT (LATE_RODATA + 1)) (LATE_RODATA + 1) (omega arith))
 
 -- ---- what is asked
 
@@ -109,7 +109,7 @@ module _ (v : View) (end : ℕ) (late : Bool) (c : ℕ) where
   asked_some h = rw (lt-ltb 0 end h)
 
   module _ (h : end ≤ 0) where
-    pub asked_rodata : c ≡ LATE-RODATA_lem → late ≡ asked_a v end late c
+    pub asked_rodata : c ≡ LATE_RODATA → late ≡ asked_a v end late c
     unfolding asked_a
     asked_rodata e = rw (le-ltb 0 end h, e) (sym (or_off late))
       where
@@ -117,7 +117,7 @@ module _ (v : View) (end : ℕ) (late : Bool) (c : ℕ) where
         or_off true = refl
         or_off false = refl
 
-    module _ (d : c ≡ LATE-RODATA_lem → ⊥) where
+    module _ (d : c ≡ LATE_RODATA → ⊥) where
       pub asked_reginfo : c ≡ REGINFO → has_in v c ≡ asked_a v end late c
       unfolding asked_a
       asked_reginfo e = rw (le-ltb 0 end h, ne_eqb _ _ d, eq-eqb _ _ e)
@@ -183,7 +183,7 @@ module _ (P : List Place) (B : List ℕ) (f : Fitting P B) (end : ℕ) (late : B
 
   pub wanted_a_lem : (o : ByteOrder) (C A : List ℕ) (v : View) → v ≡ view_of o C → asked_a v end late c ≡ wanted_a o C A P B c
   unfolding asked_a wanted_a
-  wanted_a_lem o C A v is = rw (some_end, w.runs, view_has o C v is c w.low w.high) (same_code (eqb c LATE-RODATA_lem && has_late_step P B))
+  wanted_a_lem o C A v is = rw (some_end, w.runs, view_has o C v is c w.low w.high) (same_code (eqb c LATE_RODATA && has_late_step P B))
     where
       same_code : (b : Bool) → (has_span P B c || (b || (eqb c REGINFO && has_code o C c))) ≡ (has_span P B c || (b || (eqb c REGINFO && has_code o C REGINFO)))
       same_code b = by-test (eqb c REGINFO) (λ t. ap (λ (x : ℕ). has_span P B c || (b || (eqb c REGINFO && has_code o C x))) (eqb-true c REGINFO t)) (λ n. rw n)

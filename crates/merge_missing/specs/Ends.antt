@@ -2,7 +2,7 @@
 -- there is a span and whether one passes an offset (proofs/Ends.antt).
 use Rattle.std.specs.Prelude.{ℕ, ◌≤◌, ◌≡◌, Bool, not, ◌&&◌, ◌||◌, List, length, get_or, eqb, ltb}
 use Rattle.base_fields.specs.declared.ByteOrder.{ByteOrder}
-use Rattle.base_scope.specs.Codes.{LATE-RODATA_lem, REGINFO, CODES, holds_bytes, is_late_target}
+use Rattle.base_scope.specs.Codes.{LATE_RODATA, REGINFO, CODES, holds_bytes, is_late_target}
 use Rattle.elf_readers.specs.Readers.{has_code, coded_contents}
 use Rattle.elf_check.specs.declared.View.{View}
 use Rattle.elf_check.specs.View.{has_in}
@@ -19,7 +19,7 @@ asked_c o A end late c = (holds_bytes c && ltb 0 end) || ((is_late_target c && l
 
 -- v is C's view
 unfoldable pub asked_a : View → ℕ → Bool → ℕ → Bool
-asked_a v end late c = ltb 0 end || ((eqb c LATE-RODATA_lem && late) || (eqb c REGINFO && has_in v c))
+asked_a v end late c = ltb 0 end || ((eqb c LATE_RODATA && late) || (eqb c REGINFO && has_in v c))
 
 unfoldable pub missing_by : ByteOrder → List ℕ → View → List ℕ → Bool → ℕ → Bool
 missing_by o A v ends late c = lacking_by o A (get_or ends c 0) (asked_a v (get_or ends c 0) late c) c

@@ -4,7 +4,7 @@
 use Rattle.std.specs.Prelude.{ℕ, ◌+◌, ◌%◌, Bool, not, ◌&&◌, ◌||◌, List, length, eqb, ltb}
 use Rattle.base_lists.specs.Ranges.{first}
 use Rattle.base_fields.specs.declared.ByteOrder.{ByteOrder}
-use Rattle.base_scope.specs.Codes.{TEXT, LATE-RODATA_lem, REGINFO, CODES, holds_bytes, leaves_out, is_late_target, target_code}
+use Rattle.base_scope.specs.Codes.{TEXT, LATE_RODATA, REGINFO, CODES, holds_bytes, leaves_out, is_late_target, target_code}
 use Rattle.base_scope.specs.declared.Finding.{Finding}
 use Rattle.base_scope.specs.Refusals.{MISSING_SECTION, found_below}
 use Rattle.base_answers.specs.declared.Verdict.{Verdict}
@@ -23,7 +23,7 @@ goes_to o A c a = ltb 0 (length (coded_contents o A a)) && eqb (target_code a) c
 
 -- one of A's sections of codes 1 to 5 does
 unfoldable pub is_target : ByteOrder → List ℕ → ℕ → Bool
-is_target o A c = ltb (first (goes_to o A c) TEXT (LATE-RODATA_lem + 1)) (LATE-RODATA_lem + 1)
+is_target o A c = ltb (first (goes_to o A c) TEXT (LATE_RODATA + 1)) (LATE_RODATA + 1)
 
 -- some span ends behind offset n
 unfoldable pub passes : List Span → ℕ → Bool
@@ -56,7 +56,7 @@ module _ (o : ByteOrder) (C A : List ℕ) (P : List Place) (B : List ℕ) where
 
   -- A must have the section of a block, .late_rodata for the late step, and .reginfo where C has one
   unfoldable pub wanted_a : ℕ → Bool
-  wanted_a c = has_span P B c || ((eqb c LATE-RODATA_lem && has_late_step P B) || (eqb c REGINFO && has_code o C REGINFO))
+  wanted_a c = has_span P B c || ((eqb c LATE_RODATA && has_late_step P B) || (eqb c REGINFO && has_code o C REGINFO))
 
   unfoldable pub missing_a : ℕ → Bool
   missing_a c = is_lacking P B o A (wanted_a c) c

@@ -1,4 +1,6 @@
 // Refusal 11: what the compiled or the assembled object lacks for the merge. Each function equals its definition in specs/.
+#![tactic(auto)]
+
 ghost use Rattle.std.specs.Prelude.{◌≡◌, ◌&&◌, ◌≤◌, ◌<◌, eqb, ltb, length};
 ghost use Rattle.base_scope.specs.Codes.{CODES};
 ghost use Rattle.elf_readers.specs.Readers.{coded_contents};

@@ -9,7 +9,7 @@ use lib.Seq.{length-take-le}
 use Rattle.base_lists.specs.Windows.{spliced}
 use Rattle.base_lists.proofs.Ranges.{both, by-lt}
 use Rattle.base_fields.specs.declared.ByteOrder.{ByteOrder}
-use Rattle.base_scope.specs.Codes.{LATE-RODATA_lem, LATE_TARGET, REGINFO, CODES, holds_bytes, is_late_target, section_codes}
+use Rattle.base_scope.specs.Codes.{LATE_RODATA, LATE_TARGET, REGINFO, CODES, holds_bytes, is_late_target, section_codes}
 use Rattle.base_scope.specs.Limits.{FILE_LIMIT, LATE_TABLE}
 use Rattle.base_scope.specs.declared.Finding.{Finding}
 use Rattle.base_scope.specs.declared.Finding.TheVariants.{Clear}
@@ -82,7 +82,7 @@ module _ (C A B : List ℕ) (s : Stage) (table places : List ℕ) (w : StageRead
   T = coded_contents o A LATE_TARGET
 
   abbrev W : List ℕ
-  W = coded_contents o A LATE-RODATA_lem
+  W = coded_contents o A LATE_RODATA
 
   pub step_runs : s.step.runs ≡ has_late_step P B
   unfolding late_step_of
@@ -103,7 +103,7 @@ module _ (C A B : List ℕ) (s : Stage) (table places : List ℕ) (w : StageRead
   small = omega (arith, coded_short o C LATE_TARGET, w.read.compiled_small)
 
   short : length W ≤ FILE_LIMIT
-  short = omega (arith, coded_short o A LATE-RODATA_lem, w.read.assembled_small)
+  short = omega (arith, coded_short o A LATE_RODATA, w.read.assembled_small)
 
   pub searchable : Searchable C B s table places
   searchable = record { compiled = w.read.compiled; runs = step_runs; ready = ready }
@@ -159,11 +159,11 @@ module _ (C A B : List ℕ) (s : Stage) (table places : List ℕ) (w : StageRead
 pub section_plain : (o : ByteOrder) (C A : List ℕ) (P : List Place) (B : List ℕ) (c : ℕ) → is_late_target c ≡ false
     → copied (spans_of P B c) (coded_contents o C c) (coded_contents o A c) ≡ result_section o C A P B c
 unfolding result_section
-section_plain o C A P B c f = sym (final_other o P B (coded_contents o C c) (coded_contents o A c) (coded_contents o A LATE-RODATA_lem) (late_start o A) c f)
+section_plain o C A P B c f = sym (final_other o P B (coded_contents o C c) (coded_contents o A c) (coded_contents o A LATE_RODATA) (late_start o A) c f)
 
 pub section_length : (o : ByteOrder) (C A : List ℕ) (P : List Place) (B : List ℕ) (c : ℕ) → length (result_section o C A P B c) ≡ length (coded_contents o C c)
 unfolding result_section
-section_length o C A P B c = final_length o P B (coded_contents o C c) (coded_contents o A c) (coded_contents o A LATE-RODATA_lem) (late_start o A) c
+section_length o C A P B c = final_length o P B (coded_contents o C c) (coded_contents o A c) (coded_contents o A LATE_RODATA) (late_start o A) c
 
 pub registers_length : (o : ByteOrder) (C A : List ℕ) → length (register_bytes o C A) ≡ length (coded_contents o C REGINFO)
 unfolding register_bytes

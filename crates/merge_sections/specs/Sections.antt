@@ -2,7 +2,7 @@
 -- of the block file B.
 use Rattle.std.specs.Prelude.{ℕ, List}
 use Rattle.base_fields.specs.declared.ByteOrder.{ByteOrder}
-use Rattle.base_scope.specs.Codes.{LATE-RODATA_lem, REGINFO, LATE_TARGET}
+use Rattle.base_scope.specs.Codes.{LATE_RODATA, REGINFO, LATE_TARGET}
 use Rattle.base_scope.specs.declared.Finding.{Finding}
 use Rattle.base_scope.specs.declared.Finding.TheVariants.{Clear}
 use Rattle.base_scope.specs.Refusals.{pick_finding, found_below}
@@ -28,7 +28,7 @@ module _ (o : ByteOrder) (C A : List ℕ) (P : List Place) (B : List ℕ) where
 
   -- C's section of code c, after block copying and, in the late target, the late moves; no bytes where C has none
   unfoldable pub result_section : ℕ → List ℕ
-  result_section c = final_bytes o P B (coded_contents o C c) (coded_contents o A c) (coded_contents o A LATE-RODATA_lem) (late_start o A) c
+  result_section c = final_bytes o P B (coded_contents o C c) (coded_contents o A c) (coded_contents o A LATE_RODATA) (late_start o A) c
 
 -- C's.reginfo with A's ORed into it
 unfoldable pub register_bytes : ByteOrder → List ℕ → List ℕ → List ℕ

@@ -1,6 +1,8 @@
 // What the merge writes over C's sections, each by itself, once 11 to 13 have passed: the search for late words with refusal 14, a section after block copying, the late
 // target with its late moves, .reginfo. Each function equals its definition in specs/Sections.antt; a section that is not the late target is stated by `copied`, which is its
 // `result_section` (proofs/Sections.antt, `section_plain`).
+#![tactic(auto)]
+
 ghost use Rattle.std.specs.Prelude.{◌≡◌, true, ◌+◌, ◌≤◌, length};
 ghost use Rattle.base_lists.specs.Windows.{spliced};
 ghost use Rattle.base_scope.specs.Codes.{LATE_TARGET, REGINFO, holds_bytes};
@@ -21,7 +23,7 @@ use late_length::LateStep;
 use merge_inputs::Inputs;
 
 // What is in hand once 11 to 13 have passed: the inputs, and the late step.
-#[derive(Drop)]
+#[derive(Clone, Copy)]
 pub struct Stage {
     pub inputs: Inputs,
     pub step: LateStep,

@@ -6,7 +6,7 @@ use mathlib.Core.List.{List}
 use native.Mathlib.Omega.{arith}
 use lib.ListN.{length, get_or}
 use lib.Dec.{leb}
-use borrow.Author.Tests.{le-leb, lt-leb, leb-true, ltb-true, eqb-true, eq-eqb, ne_eqb, not_false}
+use borrow.Author.Tests.{le-leb, lt-leb, leb-true, ltb-true, eqb-true, eq-eqb, ne_eqb, not-false}
 use Rattle.base_lists.specs.Ranges.{first}
 use Rattle.base_lists.proofs.Ranges.{and_parts, or_parts, first_here, first_next, first_end, none_first}
 use Rattle.base_scope.specs.Limits.{FILE_LIMIT, PATH_LIMIT, over_limits, Kept}
@@ -52,7 +52,7 @@ module _ (p : List ℕ) where
   unfolding is_path is_path_byte
   path_full e k h z =
       let whole = eqb-true _ _ (and_parts (leb (length p) PATH_LIMIT) _ e).1 in
-      let good = not_false (is_path_byte (get_or p k 0)) (none_first (bad_byte p) 0 (length p) k whole (omega arith) h) in
+      let good = not-false (is_path_byte (get_or p k 0)) (none_first (bad_byte p) 0 (length p) k whole (omega arith) h) in
       omega (arith, ltb-true 0 (get_or p k 0) (and_parts _ _ good).0, z)
 
 -- ---- all of them
@@ -94,5 +94,5 @@ merge_limits compiled assembled blocks flag mode table places steps index path x
       places_size = h.0;
       steps_size = i.0;
       index_size = j.0;
-      path_is = not_false (is_path path) e.1;
+      path_is = not-false (is_path path) e.1;
     }

@@ -1,1 +1,2 @@
 // No code: the definition of the whole merge, and what an accepted one implies.
+#![tactic(auto)]

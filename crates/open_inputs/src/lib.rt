@@ -1,5 +1,7 @@
 // The compiled object and the block file, taken in: refusals 2 to 9, which the draft and the merge begin with. Each function equals its definition in specs/; where
 // all pass, the two tables hold the blocks and the places of their lines; behind the table of blocks the index of C's names was, by which the labels were found.
+#![tactic(auto)]
+
 ghost use Rattle.std.specs.Prelude.{◌≡◌, ◌≤◌, length};
 ghost use Rattle.base_buffers.specs.Parts.{part_at, KeptBefore};
 ghost use Rattle.base_scope.specs.Limits.{FILE_LIMIT, BLOCK_TABLE, PLACE_TABLE, SYMBOL_INDEX, OPEN_TABLE};
@@ -20,7 +22,7 @@ use elf_check::Checked;
 use elf_symbols::SymbolTable;
 
 // The number of blocks, or a refusal's number, object and place.
-#[derive(Drop)]
+#[derive(Clone, Copy)]
 pub enum Opened {
     Blocks(usize),
     Refused(u32, u32, u64),

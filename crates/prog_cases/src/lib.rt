@@ -1,5 +1,7 @@
 // What the programs that run drafts share: room for files and texts, lengths in front of a job's bytes, the call with its working buffers, and how
 // an answer is printed.
+#![tactic(auto)]
+
 ghost use Rattle.std.specs.Prelude.{◌<◌};
 
 use base_answers::Outcome;

@@ -1,6 +1,8 @@
 // Replays a list of draft jobs and prints the answer of each: `job K accepted LENGTH` and the text, or `job K refused NUMBER OBJECT PLACE`.
 // A job is four lengths, four bytes each, the most significant first (compiled object, prelude, block file, room in the output), and then the bytes of
 // the first three. The list is the file that the first argument names.
+#![tactic(auto)]
+
 use libc::STDOUT_FILENO;
 
 fn print_accepted(out: &[u8], length: u64) {

@@ -2,6 +2,8 @@
 // PLACE`. A job is twelve words, four bytes each, the most significant first, and then bytes: the lengths of the compiled object, the assembled object, the block file and
 // the path; of the bytes that follow, which are those of the four up to zeros at their end; the statics mode; the lengths of the output and of the four working buffers; the
 // drop flag. The list is the file that the first argument names.
+#![tactic(auto)]
+
 ghost use Rattle.std.specs.Prelude.{◌≤◌};
 
 use libc::STDOUT_FILENO;

@@ -2,6 +2,8 @@
 // binding, offset of its name, name), or `job K refused NUMBER PLACE`; then, for each debug section, its header's words after a move, or `refused`.
 // A job is four words, four bytes each, the most significant first (the object's length, the statics mode, the path's length, by how much each debug
 // section moves), and then the object and the path. The list is the file that the first argument names.
+#![tactic(auto)]
+
 ghost use Rattle.std.specs.Prelude.{◌≡◌, ◌<◌, ◌≤◌, length};
 ghost use Rattle.base_scope.specs.Limits.{FILE_LIMIT, PATH_LIMIT, STATIC_LIMIT, STATIC_TABLE};
 ghost use Rattle.elf_readers.specs.Readers.{section_count};

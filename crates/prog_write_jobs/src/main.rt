@@ -1,6 +1,8 @@
 // Writes objects anew from their own sections, and prints what comes of each: `job K accepted LENGTH`, the object and LF, or `job K refused NUMBER OBJECT PLACE`. A job is
 // three words, four bytes each, the most significant first, and then bytes: the length of the object; of the bytes that follow, which are the object's up to zeros at its end;
 // and the room in the output. The list is the file that the first argument names.
+#![tactic(auto)]
+
 use base_answers::Outcome;
 use elf_check::Checked;
 use libc::STDOUT_FILENO;

@@ -1,5 +1,7 @@
 // The records of the debug section that document 01 reads: four words of the symbolic header, file descriptors, entries; the type and the storage
 // class of an entry, and what they mean. Each function equals its definition in specs/Entries.antt.
+#![tactic(auto)]
+
 ghost use Rattle.std.specs.Prelude.{◌≡◌, ◌+◌, ◌≤◌, length};
 ghost use Rattle.base_scope.specs.Codes.{CODES};
 ghost use Rattle.statics_debug.specs.Entries.{TABLES_SIZE, FILE_READ, ENTRY_SIZE, tables_in, file_at, entry_at, entry_type, storage_class, lists_static, opens_scope, closes_scope, storage_code};
@@ -7,7 +9,7 @@ ghost use Rattle.statics_debug.specs.Entries.{TABLES_SIZE, FILE_READ, ENTRY_SIZE
 use base_fields::ByteOrder;
 
 // How many file descriptors there are, and where the descriptors, the local symbols and their strings stand in the file.
-#[derive(Drop)]
+#[derive(Clone, Copy)]
 pub struct Tables {
     pub files: u32,
     pub descriptors: u32,
@@ -34,7 +36,7 @@ impl Tables {
 }
 
 // What is read of a file descriptor: where its names start among the strings, its first entry and how many it has.
-#[derive(Drop)]
+#[derive(Clone, Copy)]
 pub struct FileRecord {
     pub names: u32,
     pub first: u32,
@@ -61,7 +63,7 @@ impl FileRecord {
 }
 
 // An entry: where its name starts among its file's names, its value, and the word of its type and storage class.
-#[derive(Drop)]
+#[derive(Clone, Copy)]
 pub struct Entry {
     pub name: u32,
     pub value: u32,

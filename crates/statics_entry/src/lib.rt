@@ -1,4 +1,6 @@
 // One entry of the debug section: refusal 17 inside it, and the static that it adds to the table. Each function equals its definition in specs/.
+#![tactic(auto)]
+
 ghost use Rattle.std.specs.Prelude.{◌≡◌, true, ◌+◌, ◌≤◌, ◌<◌, length};
 ghost use Rattle.base_scope.specs.Limits.{FILE_LIMIT, STATIC_LIMIT, STATIC_NAME_LIMIT, HEAD_LIMIT};
 ghost use Rattle.statics_debug.specs.Entries.{ENTRY_SIZE};
@@ -12,7 +14,7 @@ use statics_debug::Entry;
 use statics_table::{Static, Tally};
 
 // What stays the same over a whole walk: the view of the compiled object, and how many bytes the mode puts in front of a name.
-#[derive(Drop)]
+#[derive(Clone, Copy)]
 pub struct Setting {
     pub view: View,
     pub head: u32,
@@ -87,7 +89,7 @@ fn static_from(
 }
 
 // What an entry comes to: whether it is at fault, its type (`kind`), and how far the table is filled after it.
-#[derive(Drop)]
+#[derive(Clone, Copy)]
 pub struct EntryEnd {
     pub bad: bool,
     pub kind: u32,

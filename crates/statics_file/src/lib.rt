@@ -1,5 +1,7 @@
 // The entries of one file of the debug section, walked with the scopes that they open and close. Each function equals its definition in specs/. An entry
 // that lists no static costs one word read, so that a walk over overlapping files stays cheap.
+#![tactic(auto)]
+
 ghost use Rattle.std.specs.Prelude.{◌≡◌, cond, ◌≤◌, ◌<◌};
 ghost use Rattle.statics_debug.specs.Entries.{opens_scope, closes_scope};
 ghost use Rattle.statics_table.specs.Table.{StaticTable};
@@ -32,7 +34,7 @@ fn closes(kind: u32) -> usize
 }
 
 // The entries of a file: where they start in the compiled object, how many there are, and where their names start.
-#[derive(Drop)]
+#[derive(Clone, Copy)]
 pub struct FileEntries {
     pub start: usize,
     pub count: usize,
@@ -40,7 +42,7 @@ pub struct FileEntries {
 }
 
 // The end of a file's walk: whether the file fails, how many of its entries are completed, and how far the table is filled after them.
-#[derive(Drop)]
+#[derive(Clone, Copy)]
 pub struct FileEnd {
     pub bad: bool,
     pub entries: usize,

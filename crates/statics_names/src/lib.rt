@@ -1,6 +1,8 @@
 // The names of statics as they are written, and the type and binding of their symbols. Each function equals its definition in the crate statics_table,
 // specs/Statics.antt; a name is appended from the path, the compiled object and the count, and stands in no buffer of its own. Of the place it is asked only that the
 // name ends below 2 ^ 64 (11: a colon and ten digits).
+#![tactic(auto)]
+
 ghost use Rattle.std.specs.Prelude.{◌≡◌, ◌+◌, ◌≤◌, ◌<◌, length};
 ghost use Rattle.base_lists.specs.Written.{Written};
 ghost use Rattle.base_scope.specs.Limits.{PATH_LIMIT, HEAD_LIMIT};

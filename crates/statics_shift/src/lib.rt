@@ -1,5 +1,7 @@
 // The shift of a debug section that moves: eleven offset words of its symbolic header, and the test that it has one. Each function equals its definition in
 // specs/Shift.antt; a word moves by `base_packed::shifted_offset`, a wrapping subtract and a wrapping add.
+#![tactic(auto)]
+
 ghost use Rattle.std.specs.Prelude.{◌≡◌, ◌≤◌, ◌<◌, length};
 ghost use Rattle.statics_shift.specs.Shift.{HEADER_SIZE, HEADER_WORDS, is_offset, moves, moved_word, moved_words, moved_debug, has_header, shift_fails};
 

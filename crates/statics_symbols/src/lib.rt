@@ -1,4 +1,6 @@
 // The symbols of statics. Each function equals its definition in specs/Entries.antt.
+#![tactic(auto)]
+
 ghost use Rattle.std.specs.Prelude.{◌≡◌, ◌+◌, ◌<◌};
 ghost use Rattle.statics_symbols.specs.Entries.{symbol_of_static};
 

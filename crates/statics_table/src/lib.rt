@@ -1,4 +1,6 @@
 // The table of statics: its rows, the count that a name gains, and the length of a written name. Each function equals its definition in specs/.
+#![tactic(auto)]
+
 ghost use Rattle.std.specs.Prelude.{◌≡◌, ◌+◌, ◌*◌, ◌≤◌, ◌<◌, length};
 ghost use Rattle.base_lists.specs.Ranges.{past_last};
 ghost use Rattle.base_lists.specs.Windows.{spliced};
@@ -17,7 +19,7 @@ pub const MODE_FILENAME: u32 = 3;
 
 // A static: its value, its section's code, where its stored name starts in the compiled object and how long it is, its count (0: none), and where
 // its written name starts among those of all statics.
-#[derive(Drop)]
+#[derive(Clone, Copy)]
 pub struct Static {
     pub value: u32,
     pub code: u32,
@@ -61,7 +63,7 @@ impl Static {
 }
 
 // How far a table of statics is filled: its rows, and the bytes of their written names.
-#[derive(Drop)]
+#[derive(Clone, Copy)]
 pub struct Tally {
     pub count: usize,
     pub size: u32,

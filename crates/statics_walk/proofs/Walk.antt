@@ -1,6 +1,6 @@
 -- Laws of the walk over the files: what a file leaves, and what the end of the walk answers. Assumes nothing.
 use mathlib.Core.Path.{◌≡◌, refl, sym, ap, ◌∙◌}
-use mathlib.Core.Bool.{true, false, not, and_false}
+use mathlib.Core.Bool.{true, false, not, and-false}
 use mathlib.Core.List.{List, []}
 use Prim.Native.Nat.{ℕ, ◌+◌, ◌*◌, ◌≤◌, ◌<◌}
 use native.Mathlib.Omega.{arith}
@@ -281,7 +281,7 @@ module _ (o : ByteOrder) (C : List ℕ) (head : ℕ) where
   debug_absent mode i r T e h a room =
       let l : section_count o C ≤ debug_section o C = rw (← e) h in
       let k : ltb (debug_section o C) (section_count o C) ≡ false = le-ltb _ _ l in
-      reads_none mode r T (rw k (and_false (not (eqb mode MODE_NO)))) a room
+      reads_none mode r T (rw k (and-false (not (eqb mode MODE_NO)))) a room
 
   pub debug_there : (mode i : ℕ) (r : Listing) (T T' : List ℕ) → (mode ≡ MODE_NO → ⊥) → i ≡ debug_section o C → i < section_count o C
       → StaticsListed head C (debug_fault o C head) (debug_list o C head) r T T' → StaticsListed head C (statics_fault o C mode head) (statics o C mode head) r T T'

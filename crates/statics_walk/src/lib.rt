@@ -1,4 +1,6 @@
 // Refusal 17 and the statics of the compiled object: the walk over the files of its debug section. Each function equals its definition in specs/.
+#![tactic(auto)]
+
 ghost use Rattle.std.specs.Prelude.{◌≡◌, ◌≤◌, ◌<◌, length};
 ghost use Rattle.base_scope.specs.Limits.{FILE_LIMIT, HEAD_LIMIT, STATIC_TABLE};
 ghost use Rattle.elf_readers.specs.Readers.{section_count};
@@ -49,7 +51,7 @@ fn walk_file(
 }
 
 // The answer of a walk: refusal 17, and how far the table is filled.
-#[derive(Drop)]
+#[derive(Clone, Copy)]
 pub struct Listing {
     pub fault: Finding,
     pub tally: Tally,

@@ -1,5 +1,7 @@
 // The holders of the list's positions, found through its index. What the pieces of the symbol merge leave one behind the other is in specs/Chain.antt, and what that is of the
 // candidates of the merge (crate symbols_ids) in proofs/Result.antt. Document 01, "Symbols".
+#![tactic(auto)]
+
 ghost use Rattle.std.specs.Prelude.{◌*◌, ◌≤◌, length};
 ghost use Rattle.base_scope.specs.Limits.{ID_LIMIT};
 ghost use Rattle.base_index.specs.Index.{Room};
@@ -11,7 +13,7 @@ use symbols_fill::Filling;
 use symbols_names::Sources;
 
 // What is in hand of the result's symbols: what they were filled by, how many of its entries are local and how many it has, entry 0 counted in both.
-#[derive(Drop)]
+#[derive(Clone, Copy)]
 pub struct Numbering {
     pub filling: Filling,
     pub locals: usize,

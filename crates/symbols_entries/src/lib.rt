@@ -1,6 +1,8 @@
 // The entries of symbols as they stand in the result, from the objects, the words of the glabels and the section and the value that the row of an id has. Each function equals
 // its definition in specs/; proofs/Entries.antt and proofs/Ids.antt say that these are `finished`, `entry_a` and `entry_of` of the crate symbols_ids.
 // Document 01, "Symbols" and "Carrying".
+#![tactic(auto)]
+
 ghost use Rattle.std.specs.Prelude.{◌≡◌, cond, ◌+◌, ◌*◌, ◌≤◌, ◌<◌, length};
 ghost use Rattle.base_scope.specs.Elf.{STT_OBJECT};
 ghost use Rattle.base_scope.specs.Limits.{FILE_LIMIT, STATIC_LIMIT, STATIC_ROW};

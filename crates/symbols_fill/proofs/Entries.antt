@@ -14,7 +14,7 @@ use Rattle.base_packed.specs.Packed.{binding_of, type_of}
 use Rattle.base_packed.proofs.Packed.{binding_join}
 use Rattle.base_scope.specs.Text.{text}
 use Rattle.base_scope.specs.Elf.{STT_OBJECT, STT_FUNC}
-use Rattle.base_scope.specs.Codes.{TEXT, LATE-RODATA_lem, LATE_TARGET, CODES, target_code}
+use Rattle.base_scope.specs.Codes.{TEXT, LATE_RODATA, LATE_TARGET, CODES, target_code}
 use Rattle.elf_records.specs.declared.symbol.SymbolEntry.{SymbolEntry}
 use Rattle.elf_readers.specs.Readers.{coded_contents}
 use Rattle.elf_symbols.specs.Symbols.{symbol_count, symbol}
@@ -114,8 +114,8 @@ module _ (C A : List ℕ) (P : List Place) (B T late : List ℕ) (f : Filling) (
     value_same h taken =
         rw code_same
         (by-test (is_placed_in index)
-        (λ p. by-test (eqb (symbol_code o A k) LATE-RODATA_lem)
-        (λ l. rw (p, l) (late_is (symbol o A k).st_value (s.passed.moved k h taken (eqb-true (symbol_code o A k) LATE-RODATA_lem l))))
+        (λ p. by-test (eqb (symbol_code o A k) LATE_RODATA)
+        (λ l. rw (p, l) (late_is (symbol o A k).st_value (s.passed.moved k h taken (eqb-true (symbol_code o A k) LATE_RODATA l))))
         (λ l. rw (p, l)))
         (λ p. rw p))
 

@@ -14,7 +14,7 @@ use Rattle.base_fields.specs.Numbers.{number}
 use Rattle.base_fields.specs.Layouts.{fields_from}
 use Rattle.base_fields.proofs.Numbers.{number_lt}
 use Rattle.base_packed.specs.Packed.{binding_of}
-use Rattle.base_scope.specs.Codes.{LATE-RODATA_lem, target_code}
+use Rattle.base_scope.specs.Codes.{LATE_RODATA, target_code}
 use Rattle.base_scope.specs.Limits.{LATE_ROW, LATE_WORDS}
 use Rattle.elf_records.specs.declared.symbol.SymbolEntry.{SymbolEntry}
 use Rattle.elf_records.specs.Symbol.{symbol_layout, symbol_from, symbol_at}
@@ -89,13 +89,13 @@ module _ (runs : Bool) (late : List ℕ) (n x : ℕ) where
   unfolding late_place_in
   late_idle f = rw f
 
-  pub value_late : (code r : ℕ) → code ≡ LATE-RODATA_lem → r ≡ late_place_in runs late n x → r ≡ late_value_in code runs late n x
+  pub value_late : (code r : ℕ) → code ≡ LATE_RODATA → r ≡ late_place_in runs late n x → r ≡ late_value_in code runs late n x
   unfolding late_value_in
-  value_late code r e is = rw (eq-eqb code LATE-RODATA_lem e) is
+  value_late code r e is = rw (eq-eqb code LATE_RODATA e) is
 
-  pub value_stays : (code : ℕ) → (code ≡ LATE-RODATA_lem → ⊥) → x ≡ late_value_in code runs late n x
+  pub value_stays : (code : ℕ) → (code ≡ LATE_RODATA → ⊥) → x ≡ late_value_in code runs late n x
   unfolding late_value_in
-  value_stays code d = rw (ne_eqb code LATE-RODATA_lem d)
+  value_stays code d = rw (ne_eqb code LATE_RODATA d)
 
 -- ---- places, from an entry e and what is read of it
 

@@ -4,7 +4,7 @@ use Rattle.std.specs.Prelude.{ℕ, ◌+◌, ◌*◌, ◌≤◌, ◌<◌, ◌≡�
 use Rattle.base_lists.specs.Windows.{Within}
 use Rattle.base_fields.specs.declared.ByteOrder.{ByteOrder}
 use Rattle.base_packed.specs.Packed.{binding_of}
-use Rattle.base_scope.specs.Codes.{LATE-RODATA_lem, CODES, target_code}
+use Rattle.base_scope.specs.Codes.{LATE_RODATA, CODES, target_code}
 use Rattle.base_scope.specs.Limits.{SECTION_LIMIT, STATIC_LIMIT, STATIC_ROW}
 use Rattle.elf_records.specs.declared.symbol.SymbolEntry.{SymbolEntry}
 use Rattle.elf_symbols.specs.Symbols.{symbol_count, symbol, symbol_name}
@@ -47,7 +47,7 @@ late_place_in runs late n x = cond runs (place_number (offset_at late n x)) 0
 
 -- value x in A's section of a code
 unfoldable pub late_value_in : ℕ → Bool → List ℕ → ℕ → ℕ → ℕ
-late_value_in code runs late n x = cond (eqb code LATE-RODATA_lem) (late_place_in runs late n x) x
+late_value_in code runs late n x = cond (eqb code LATE_RODATA) (late_place_in runs late n x) x
 
 -- A's symbol k: its section index, and its place
 unfoldable pub index_a : List ℕ → Filling → ℕ → ℕ

@@ -1,6 +1,8 @@
 // The rows of the ids of a merge, so that the tables of `symbols_rows` hold its candidates: whether an id is taken, what its working name is like, and where the entry of the
 // result stands. Each function equals its definition in specs/Fill.antt, over what is in hand; proofs/Candidates.antt says that these are the candidates of the crate
 // symbols_ids (`fill_agree`). Document 01, "Symbols" and "Statics".
+#![tactic(auto)]
+
 ghost use Rattle.std.specs.Prelude.{◌≡◌, ◌+◌, ◌*◌, ◌≤◌, ◌<◌, length};
 ghost use Rattle.base_scope.specs.Codes.{CODES};
 ghost use Rattle.base_scope.specs.Limits.{SYMBOL_LIMIT, ID_LIMIT, ID_ROW};
@@ -22,7 +24,7 @@ use symbols_names::{NameKind, Sources};
 use symbols_rows::IdRow;
 
 // What is in hand to fill the rows: the inputs of the merge, its late step, where names are read, and the mode of its statics.
-#[derive(Drop)]
+#[derive(Clone, Copy)]
 pub struct Filling {
     pub inputs: Inputs,
     pub step: LateStep,
@@ -31,7 +33,7 @@ pub struct Filling {
 }
 
 // Where an entry of the result stands, and its binding.
-#[derive(Drop)]
+#[derive(Clone, Copy)]
 pub struct SymbolPlace {
     pub section: u32,
     pub value: u32,

@@ -17,7 +17,7 @@ use Rattle.base_lists.proofs.Strings.{same_sym}
 use Rattle.base_fields.specs.declared.ByteOrder.{ByteOrder}
 use Rattle.elf_symbols.specs.Symbols.{symbol_count, symbol_name, is_symbol_named}
 use Rattle.blocks_lines.specs.Lines.{line_end, next}
-use Rattle.blocks_lines.specs.Keys.{KEY-GLABEL_lem, is_key_line, value_at}
+use Rattle.blocks_lines.specs.Keys.{KEY_GLABEL, is_key_line, value_at}
 use Rattle.blocks_lines.proofs.Lines.{next_low, next_high}
 use Rattle.blocks_lines.proofs.Keys.{key_line_whole}
 use Rattle.blocks_file.specs.Blocks.{count_from, group_size, line_behind, group_at, block_at, block_count}
@@ -70,7 +70,7 @@ key_line_turn B k a t = (next_low B a, next_high B a (key_line_whole B k a t))
 -- it stands at the line at p, which is line m behind the one at a
 pub record Turned (o : ByteOrder) (F B : List ℕ) (a : ℕ) (before after : List ℕ) (p m : ℕ) : Type 0 where
   pub place : p ≡ line_behind B a m
-  pub left : group_size B KEY-GLABEL_lem a ≡ m + group_size B KEY-GLABEL_lem p
+  pub left : group_size B KEY_GLABEL a ≡ m + group_size B KEY_GLABEL p
   pub marked : Marked (λ k. is_among B a (symbol_name o F k) m) 0 (symbol_count o F) before after
 
 module _ (o : ByteOrder) (F B : List ℕ) (a : ℕ) (before : List ℕ) where
@@ -86,47 +86,47 @@ module _ (o : ByteOrder) (F B : List ℕ) (a : ℕ) (before : List ℕ) where
   unfolding is_among
   among_none name = some_zero (is_line_named B a name)
 
-  among_next : (m p k : ℕ) → p ≡ line_behind B a m → is_among B a (symbol_name o F k) (m + 1) ≡ (is_among B a (symbol_name o F k) m || is_symbol_named o F (value_at B KEY-GLABEL_lem p) k)
+  among_next : (m p k : ℕ) → p ≡ line_behind B a m → is_among B a (symbol_name o F k) (m + 1) ≡ (is_among B a (symbol_name o F k) m || is_symbol_named o F (value_at B KEY_GLABEL p) k)
   unfolding is_among is_line_named is_symbol_named
   among_next m p k e =
       some_next (is_line_named B a (symbol_name o F k)) m
-      ∙ ap (λ (b : Bool). ltb (first (is_line_named B a (symbol_name o F k)) 0 m) m || b) (rw (← e) (same_sym (value_at B KEY-GLABEL_lem p) (symbol_name o F k)))
+      ∙ ap (λ (b : Bool). ltb (first (is_line_named B a (symbol_name o F k)) 0 m) m || b) (rw (← e) (same_sym (value_at B KEY_GLABEL p) (symbol_name o F k)))
 
   pub turned_none : Turned o F B a before before a 0
   turned_none =
       record { place = behind_none; left = omega arith; marked = marked_none (λ k. is_among B a (symbol_name o F k) 0) 0 (symbol_count o F) before (λ k. among_none (symbol_name o F k)) }
 
-  pub turned_next : (l after : List ℕ) (p q m : ℕ) → is_key_line B KEY-GLABEL_lem p ≡ true → q ≡ line_end B p + 1 → Turned o F B a before l p m
-      → Marked (is_symbol_named o F (value_at B KEY-GLABEL_lem p)) 0 (symbol_count o F) l after → Turned o F B a before after q (m + 1)
+  pub turned_next : (l after : List ℕ) (p q m : ℕ) → is_key_line B KEY_GLABEL p ≡ true → q ≡ line_end B p + 1 → Turned o F B a before l p m
+      → Marked (is_symbol_named o F (value_at B KEY_GLABEL p)) 0 (symbol_count o F) l after → Turned o F B a before after q (m + 1)
   unfolding next
   turned_next l after p q m t e x y =
       let n : q ≡ next B p = e in
       rw n (record {
         place = behind_next m p x.place;
-        left = omega (arith, x.left, size_next B KEY-GLABEL_lem p t);
-        marked = marked_then (λ k. is_among B a (symbol_name o F k) m) (is_symbol_named o F (value_at B KEY-GLABEL_lem p)) (λ k. is_among B a (symbol_name o F k) (m + 1)) (symbol_count o F) before l after
+        left = omega (arith, x.left, size_next B KEY_GLABEL p t);
+        marked = marked_then (λ k. is_among B a (symbol_name o F k) m) (is_symbol_named o F (value_at B KEY_GLABEL p)) (λ k. is_among B a (symbol_name o F k) (m + 1)) (symbol_count o F) before l after
             (λ k. among_next m p k x.place) x.marked y;
       })
 
-  pub turned_end : (after : List ℕ) (p m : ℕ) → is_key_line B KEY-GLABEL_lem p ≡ false → Turned o F B a before after p m
+  pub turned_end : (after : List ℕ) (p m : ℕ) → is_key_line B KEY_GLABEL p ≡ false → Turned o F B a before after p m
       → Marked (λ k. is_in_group B a (symbol_name o F k)) 0 (symbol_count o F) before after
   unfolding is_in_group
   turned_end after p m f x =
-      let e : m ≡ group_size B KEY-GLABEL_lem a = omega (arith, x.left, size_here B KEY-GLABEL_lem p f) in
+      let e : m ≡ group_size B KEY_GLABEL a = omega (arith, x.left, size_here B KEY_GLABEL p f) in
       rw e at x.marked
 
 -- ---- the group of a block, and the blocks
 
 module _ (P : List Place) (B : List ℕ) (i : ℕ) where
-  live_line : (name : List ℕ) (k : ℕ) → live P B i ≡ true → is_line_named B (group_at B (block_at B i) KEY-GLABEL_lem) name k ≡ is_glabel_at P B name i k
+  live_line : (name : List ℕ) (k : ℕ) → live P B i ≡ true → is_line_named B (group_at B (block_at B i) KEY_GLABEL) name k ≡ is_glabel_at P B name i k
   unfolding is_line_named is_glabel_at glabel
   live_line name k t = rw t
 
-  live_group : (name : List ℕ) (a : ℕ) → live P B i ≡ true → a ≡ group_at B (block_at B i) KEY-GLABEL_lem → is_in_group B a name ≡ has_index (is_glabel_at P B name) (glabel_count B) i
+  live_group : (name : List ℕ) (a : ℕ) → live P B i ≡ true → a ≡ group_at B (block_at B i) KEY_GLABEL → is_in_group B a name ≡ has_index (is_glabel_at P B name) (glabel_count B) i
   unfolding is_in_group is_among has_index index_in glabel_count
   live_group name a t e =
-      let g : ℕ = group_at B (block_at B i) KEY-GLABEL_lem in
-      let n : ℕ = group_size B KEY-GLABEL_lem g in
+      let g : ℕ = group_at B (block_at B i) KEY_GLABEL in
+      let n : ℕ = group_size B KEY_GLABEL g in
       rw e (ap (λ (m : ℕ). ltb m n) (first_ext (is_line_named B g name) (is_glabel_at P B name i) 0 n (λ j l u. live_line name j t)))
 
   off_group : (name : List ℕ) → live P B i ≡ false → has_index (is_glabel_at P B name) (glabel_count B) i ≡ false
@@ -134,7 +134,7 @@ module _ (P : List Place) (B : List ℕ) (i : ℕ) where
   off_group name f = index_none _ _ i (λ k h. rw f)
 
   module _ (o : ByteOrder) (F before : List ℕ) where
-    pub block_live : (after : List ℕ) (a : ℕ) → live P B i ≡ true → a ≡ group_at B (block_at B i) KEY-GLABEL_lem
+    pub block_live : (after : List ℕ) (a : ℕ) → live P B i ≡ true → a ≡ group_at B (block_at B i) KEY_GLABEL
         → Marked (λ k. is_in_group B a (symbol_name o F k)) 0 (symbol_count o F) before after
         → Marked (λ k. has_index (is_glabel_at P B (symbol_name o F k)) (glabel_count B) i) 0 (symbol_count o F) before after
     block_live after a t e x = marked_as _ _ 0 (symbol_count o F) before after (λ k. live_group (symbol_name o F k) a t e) x

@@ -19,7 +19,7 @@ use Rattle.base_scope.specs.Codes.{TEXT, line_of}
 use Rattle.elf_symbols.specs.declared.SymbolTable.{SymbolTable}
 use Rattle.elf_symbols.specs.Symbols.{symbol_count, symbol_name, is_symbol_named, Table}
 use Rattle.elf_index.specs.Index.{SymbolIndex}
-use Rattle.blocks_lines.specs.Keys.{KEY-GLABEL_lem, is_key_line, value_at}
+use Rattle.blocks_lines.specs.Keys.{KEY_GLABEL, is_key_line, value_at}
 use Rattle.blocks_file.specs.Blocks.{line_behind, group_at, block_at, block_count}
 use Rattle.blocks_places.specs.Lines.{line_count, span_size}
 use Rattle.blocks_places.specs.Places.{Place, taken}
@@ -60,16 +60,16 @@ cleared n m before part e h is =
 module _ (P : List Place) (B : List ℕ) (i : ℕ) where
   pub sized_span : sized P B i ≡ true → taken P (line_of i TEXT) ≡ true
   unfolding sized
-  sized_span t = (and_parts (taken P (line_of i TEXT)) (is_key_line B KEY-GLABEL_lem (group_at B (block_at B i) KEY-GLABEL_lem)) t).0
+  sized_span t = (and_parts (taken P (line_of i TEXT)) (is_key_line B KEY_GLABEL (group_at B (block_at B i) KEY_GLABEL)) t).0
 
-  pub sized_glabel : sized P B i ≡ true → is_key_line B KEY-GLABEL_lem (group_at B (block_at B i) KEY-GLABEL_lem) ≡ true
+  pub sized_glabel : sized P B i ≡ true → is_key_line B KEY_GLABEL (group_at B (block_at B i) KEY_GLABEL) ≡ true
   unfolding sized
-  sized_glabel t = (and_parts (taken P (line_of i TEXT)) (is_key_line B KEY-GLABEL_lem (group_at B (block_at B i) KEY-GLABEL_lem)) t).1
+  sized_glabel t = (and_parts (taken P (line_of i TEXT)) (is_key_line B KEY_GLABEL (group_at B (block_at B i) KEY_GLABEL)) t).1
 
 -- which stands at the start of its group
-pub first_line_lem : (B : List ℕ) (i a : ℕ) → a ≡ group_at B (block_at B i) KEY-GLABEL_lem → value_at B KEY-GLABEL_lem a ≡ glabel B i 0
+pub first_line_lem : (B : List ℕ) (i a : ℕ) → a ≡ group_at B (block_at B i) KEY_GLABEL → value_at B KEY_GLABEL a ≡ glabel B i 0
 unfolding glabel line_behind
-first_line_lem B i a e = ap (value_at B KEY-GLABEL_lem) e
+first_line_lem B i a e = ap (value_at B KEY_GLABEL) e
 
 module _ (P : List Place) (B : List ℕ) (i : ℕ) (o : ByteOrder) (F before : List ℕ) where
   gives_named : (name : List ℕ) (k : ℕ) → sized P B i ≡ true → name ≡ glabel B i 0 → is_symbol_named o F name k ≡ gives_size P B (symbol_name o F k) i

@@ -11,7 +11,7 @@ use Rattle.base_scope.specs.Limits.{SYMBOL_LIMIT}
 use Rattle.elf_symbols.specs.declared.SymbolTable.{SymbolTable}
 use Rattle.elf_symbols.specs.Symbols.{symbol_count, symbol_name, Table}
 use Rattle.elf_index.specs.Index.{SymbolIndex}
-use Rattle.blocks_lines.specs.Keys.{KEY-GLABEL_lem, value_at}
+use Rattle.blocks_lines.specs.Keys.{KEY_GLABEL, value_at}
 use Rattle.blocks_file.specs.Blocks.{group_size, line_behind}
 use Rattle.blocks_places.specs.Lines.{line_count, span_size}
 use Rattle.blocks_places.specs.Places.{Place}
@@ -64,13 +64,13 @@ pub record Uniform (o : ByteOrder) (F marks : List ℕ) : Type 0 where
 
 -- line m behind the line at a, of a group `glabel=`, has the name; one of the first n has it, and one of all
 unfoldable pub is_line_named : List ℕ → ℕ → List ℕ → ℕ → Bool
-is_line_named B a name m = same (value_at B KEY-GLABEL_lem (line_behind B a m)) name
+is_line_named B a name m = same (value_at B KEY_GLABEL (line_behind B a m)) name
 
 unfoldable pub is_among : List ℕ → ℕ → List ℕ → ℕ → Bool
 is_among B a name n = ltb (first (is_line_named B a name) 0 n) n
 
 unfoldable pub is_in_group : List ℕ → ℕ → List ℕ → Bool
-is_in_group B a name = is_among B a name (group_size B KEY-GLABEL_lem a)
+is_in_group B a name = is_among B a name (group_size B KEY_GLABEL a)
 
 module _ (P : List Place) (B : List ℕ) (name : List ℕ) where
   -- twice one more than the size that the first n blocks give it, or 0

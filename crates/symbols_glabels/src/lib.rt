@@ -2,6 +2,8 @@
 // block wins)"): a word for each symbol, which equals `glabel_word` of its name (specs/Words.antt); proofs/Words.antt reads the answers back from it. `mark_glabels`
 // makes the words over an index of the symbols by their names (the crate elf_index): each glabel walks its bucket only, and no further than to a symbol of the name whose word
 // stays.
+#![tactic(auto)]
+
 ghost use Rattle.std.specs.Prelude.{◌≡◌, true, ℕ, ◌+◌, ◌*◌, ◌≤◌, ◌<◌, length};
 ghost use Rattle.base_lists.specs.Rows.{has_index};
 ghost use Rattle.base_scope.specs.Codes.{TEXT, line_of};
@@ -9,7 +11,7 @@ ghost use Rattle.base_scope.specs.Limits.{NUMBER_LIMIT, SYMBOL_LIMIT};
 ghost use Rattle.base_index.specs.Index.{hash_of};
 ghost use Rattle.elf_symbols.specs.Symbols.{symbol_count, symbol_name, is_symbol_named, Table, Entries};
 ghost use Rattle.elf_index.specs.Index.{SymbolIndex};
-ghost use Rattle.blocks_lines.specs.Keys.{KEY-GLABEL, is_key_line, value_at};
+ghost use Rattle.blocks_lines.specs.Keys.{KEY_GLABEL, is_key_line, value_at};
 ghost use Rattle.blocks_file.specs.Blocks.{group_at, block_at, block_count};
 ghost use Rattle.blocks_file.specs.Table.{Parsed};
 ghost use Rattle.blocks_places.specs.Lines.{line_count, labelled, span_size};
@@ -121,7 +123,7 @@ fn mark_named(
 
 // The first glabel of block i, which has one, as a part of the block file.
 fn first_glabel<'a>(file: &'a [u8], table: &[u8], i: usize) -> &'a [u8]
-    requires { Parsed file.now table.now × (i < block_count file.now) × (is_key_line file.now KEY-GLABEL (group_at file.now (block_at file.now i) KEY-GLABEL) ≡ true) }
+    requires { Parsed file.now table.now × (i < block_count file.now) × (is_key_line file.now KEY_GLABEL (group_at file.now (block_at file.now i) KEY_GLABEL) ≡ true) }
     ensures { result.now ≡ glabel file.now i 0 }
 {
     let at = blocks_file::group_start(table, i, blocks_lines::KEY_GLABEL as usize);
@@ -196,8 +198,8 @@ fn mark_line(
     at: usize,
     marks: &mut [u8],
 )
-    requires { Table order assembled.now symbols × SymbolIndex order assembled.now index.now × (is_key_line file.now KEY-GLABEL at ≡ true) × Uniform order assembled.now marks.old }
-    ensures { Marked (is_symbol_named order assembled.now (value_at file.now KEY-GLABEL at)) 0 (symbol_count order assembled.now) marks.old marks.new }
+    requires { Table order assembled.now symbols × SymbolIndex order assembled.now index.now × (is_key_line file.now KEY_GLABEL at ≡ true) × Uniform order assembled.now marks.old }
+    ensures { Marked (is_symbol_named order assembled.now (value_at file.now KEY_GLABEL at)) 0 (symbol_count order assembled.now) marks.old marks.new }
 {
     let name = blocks_lines::value_at(file, blocks_lines::KEY_GLABEL, at);
     mark_named(order, assembled, symbols, index, name, 0, marks);

@@ -5,7 +5,7 @@ use Rattle.base_lists.specs.Strings.{same}
 use Rattle.base_fields.specs.declared.ByteOrder.{ByteOrder}
 use Rattle.base_scope.specs.Text.{text}
 use Rattle.base_scope.specs.Elf.{STT_OBJECT, STT_FUNC}
-use Rattle.base_scope.specs.Codes.{LATE-RODATA_lem, LATE_TARGET, target_code}
+use Rattle.base_scope.specs.Codes.{LATE_RODATA, LATE_TARGET, target_code}
 use Rattle.base_packed.specs.Packed.{binding_of, type_of, symbol_info, visibility_of}
 use Rattle.elf_records.specs.declared.symbol.SymbolEntry.{SymbolEntry}
 use Rattle.elf_readers.specs.Readers.{coded_section, coded_contents}
@@ -43,7 +43,7 @@ module _ (o : ByteOrder) (C A : List ℕ) (P : List Place) (B : List ℕ) where
   section_a k = cond (is_placed_a k) (coded_section o C (target_code (symbol_code o A k))) (symbol o A k).st_shndx
 
   unfoldable pub value_a : ℕ → ℕ
-  value_a k = cond (is_placed_a k && eqb (symbol_code o A k) LATE-RODATA_lem) (late_place (symbol o A k).st_value) (symbol o A k).st_value
+  value_a k = cond (is_placed_a k && eqb (symbol_code o A k) LATE_RODATA) (late_place (symbol o A k).st_value) (symbol o A k).st_value
 
   -- a glabel's type and size; only in one of the five sections
   unfoldable pub is_glabel_a : ℕ → Bool

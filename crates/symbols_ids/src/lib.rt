@@ -1,1 +1,2 @@
 // The candidates of a merge: their entries as they stand in the result (specs/Entries.antt), and their ids (specs/Ids.antt). No code.
+#![tactic(auto)]

@@ -19,7 +19,7 @@ use Rattle.base_answers.specs.Answers.{NONE}
 use Rattle.base_answers.specs.Verdicts.{also, finding_verdict}
 use Rattle.symbols_merge.specs.Candidates.{Candidates, is_defined, is_unnamed, is_local, is_gp_disp}
 use Rattle.symbols_merge.specs.Listed.{list_group, listed, position, listed_at, is_alike, holder_of, is_loose, is_elsewhere, symbols_verdict}
-use Rattle.symbols_merge.specs.Merged.{RESULT-GROUPS_lem, LOCAL-GROUPS_lem, result_group, is_merged, group_at_position, merged, merged_count, local_count, number_of}
+use Rattle.symbols_merge.specs.Merged.{RESULT_GROUPS, LOCAL_GROUPS, result_group, is_merged, group_at_position, merged, merged_count, local_count, number_of}
 use Rattle.symbols_merge.proofs.Names.{alike_parts}
 use Rattle.symbols_merge.proofs.Merged.{Taken, listed_taken, position_lt, holder_merged}
 
@@ -141,7 +141,7 @@ module _ (s t : Candidates) (a : Agree s t) where
 
   pub merged_agree : merged s ≡ merged t
   unfolding merged
-  merged_agree = grouped_agree RESULT-GROUPS_lem
+  merged_agree = grouped_agree RESULT_GROUPS
 
   pub count_agree : merged_count s ≡ merged_count t
   unfolding merged_count
@@ -149,7 +149,7 @@ module _ (s t : Candidates) (a : Agree s t) where
 
   pub locals_agree : local_count s ≡ local_count t
   unfolding local_count
-  locals_agree = ap (λ (l : List ℕ). length l + 1) (grouped_agree LOCAL-GROUPS_lem)
+  locals_agree = ap (λ (l : List ℕ). length l + 1) (grouped_agree LOCAL_GROUPS)
 
   pub number_agree : (i : ℕ) → Taken s i → number_of s i ≡ number_of t i
   unfolding number_of

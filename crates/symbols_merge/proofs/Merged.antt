@@ -17,7 +17,7 @@ use Rattle.base_groups.proofs.Groups.{Stands, stands_at, grouped_at, place_lt, p
 use Rattle.base_groups.proofs.Holders.{holder_le, holder_lt, holder_alike, holder_same, holder_holds, holder_once}
 use Rattle.symbols_merge.specs.Candidates.{Candidates, is_defined, is_unnamed, is_local, is_gp_disp}
 use Rattle.symbols_merge.specs.Listed.{list_group, listed, position, listed_at, is_alike, holder_of, is_elsewhere}
-use Rattle.symbols_merge.specs.Merged.{RESULT-GROUPS_lem, LOCAL-GROUPS_lem, result_group, is_merged, group_at_position, merged, merged_count, local_count, merged_at, held_by, number_of}
+use Rattle.symbols_merge.specs.Merged.{RESULT_GROUPS, LOCAL_GROUPS, result_group, is_merged, group_at_position, merged, merged_count, local_count, merged_at, held_by, number_of}
 use Rattle.symbols_merge.proofs.Names.{unnamed_one, alike_name, name_alike, same_unnamed, alike_parts}
 
 plus_minus : (x : ℕ) → x + 1 - 1 ≡ x
@@ -135,7 +135,7 @@ module _ (s : Candidates) where
 
   -- ---- numbers
 
-  group_four : (p : ℕ) → group_at_position s p < RESULT-GROUPS_lem
+  group_four : (p : ℕ) → group_at_position s p < RESULT_GROUPS
   unfolding group_at_position result_group
   group_four p = by-test (is_local s (listed_at s p))
       (λ a. by-test (is_gp_disp s (listed_at s p)) (λ b. rw (a, b) (omega arith)) (λ b. rw (a, b) (omega arith)))
@@ -149,22 +149,22 @@ module _ (s : Candidates) where
   pub number_leads : (i : ℕ) → Taken i → merged_at s (number_of s i) ≡ held_by s i
   unfolding merged_at number_of merged held_by
   number_leads i t = rw plus_minus
-      (ap (listed_at s) (grouped_at (is_merged s) (group_at_position s) long RESULT-GROUPS_lem (holder_of s (position s i)) (holder_in i t) (holder_merged i t) (group_four _)))
+      (ap (listed_at s) (grouped_at (is_merged s) (group_at_position s) long RESULT_GROUPS (holder_of s (position s i)) (holder_in i t) (holder_merged i t) (group_four _)))
 
   pub number_in : (i : ℕ) → Taken i → (1 ≤ number_of s i) × (number_of s i < merged_count s)
   unfolding number_of merged merged_count
   number_in i t =
-      let l = place_lt (is_merged s) (group_at_position s) long RESULT-GROUPS_lem (holder_of s (position s i)) (holder_in i t) (holder_merged i t) (group_four _) in
+      let l = place_lt (is_merged s) (group_at_position s) long RESULT_GROUPS (holder_of s (position s i)) (holder_in i t) (holder_merged i t) (group_four _) in
       (omega arith, omega arith)
 
   -- ---- entries of the result
 
   abbrev Entry : ℕ → Type 0
-  Entry k = Stands (is_merged s) (group_at_position s) long RESULT-GROUPS_lem (k - 1)
+  Entry k = Stands (is_merged s) (group_at_position s) long RESULT_GROUPS (k - 1)
 
   entry_of_lem : (k : ℕ) → 1 ≤ k → k < merged_count s → Entry k
   unfolding merged merged_count
-  entry_of_lem k a b = stands_at (is_merged s) (group_at_position s) long RESULT-GROUPS_lem (k - 1) (omega arith)
+  entry_of_lem k a b = stands_at (is_merged s) (group_at_position s) long RESULT_GROUPS (k - 1) (omega arith)
 
   entry_is : (k : ℕ) (r : Entry k) → merged_at s k ≡ listed_at s r.index
   unfolding merged_at merged
@@ -219,23 +219,23 @@ module _ (s : Candidates) where
 
   -- ---- locals: they, and they alone, are below the count
 
-  local_group : (i : ℕ) → is_local s i ≡ true → result_group s i < LOCAL-GROUPS_lem
+  local_group : (i : ℕ) → is_local s i ≡ true → result_group s i < LOCAL_GROUPS
   unfolding result_group
   local_group i a = by-test (is_gp_disp s i) (λ b. rw (a, b) (omega arith)) (λ b. rw (a, b) (omega arith))
 
-  group_local : (i : ℕ) → result_group s i < LOCAL-GROUPS_lem → is_local s i ≡ true
+  group_local : (i : ℕ) → result_group s i < LOCAL_GROUPS → is_local s i ≡ true
   unfolding result_group
   group_local i h = by-test (is_local s i) (λ a. a) (λ a. absurd (omega (arith, rw a at h)))
 
   local_at : (k : ℕ) (r : Entry k) → 1 ≤ k → k < local_count s → is_local s (listed_at s r.index) ≡ true
   unfolding local_count group_at_position
-  local_at k r a b = group_local _ (group_below (is_merged s) (group_at_position s) long RESULT-GROUPS_lem (k - 1) LOCAL-GROUPS_lem r (omega arith))
+  local_at k r a b = group_local _ (group_below (is_merged s) (group_at_position s) long RESULT_GROUPS (k - 1) LOCAL_GROUPS r (omega arith))
 
   at_local : (k : ℕ) (r : Entry k) → 1 ≤ k → is_local s (listed_at s r.index) ≡ true → k < local_count s
   unfolding local_count group_at_position
-  at_local k r a t = by-lt k (length (grouped (is_merged s) (group_at_position s) long LOCAL-GROUPS_lem) + 1)
+  at_local k r a t = by-lt k (length (grouped (is_merged s) (group_at_position s) long LOCAL_GROUPS) + 1)
       (λ l. l)
-      (λ l. absurd (omega (arith, local_group _ t, group_above (is_merged s) (group_at_position s) long RESULT-GROUPS_lem (k - 1) LOCAL-GROUPS_lem r (omega arith))))
+      (λ l. absurd (omega (arith, local_group _ t, group_above (is_merged s) (group_at_position s) long RESULT_GROUPS (k - 1) LOCAL_GROUPS r (omega arith))))
 
   pub locals_first : (k : ℕ) → 1 ≤ k → k < merged_count s → (k < local_count s) ↔ (is_local s (merged_at s k) ≡ true)
   locals_first k a b =

@@ -7,15 +7,15 @@ use Rattle.symbols_merge.specs.Candidates.{Candidates, is_local, is_gp_disp}
 use Rattle.symbols_merge.specs.Listed.{listed, position, listed_at, is_alike, holder_of}
 
 -- locals, a local `_gp_disp`, the rest, another `_gp_disp`; the first two groups are local
-abbrev pub RESULT-GROUPS_lem : ℕ
-RESULT-GROUPS_lem = 4
+abbrev pub RESULT_GROUPS : ℕ
+RESULT_GROUPS = 4
 
-abbrev pub LOCAL-GROUPS_lem : ℕ
-LOCAL-GROUPS_lem = 2
+abbrev pub LOCAL_GROUPS : ℕ
+LOCAL_GROUPS = 2
 
 module _ (s : Candidates) where
   unfoldable pub result_group : ℕ → ℕ
-  result_group i = cond (is_local s i) 0 LOCAL-GROUPS_lem + cond (is_gp_disp s i) 1 0
+  result_group i = cond (is_local s i) 0 LOCAL_GROUPS + cond (is_gp_disp s i) 1 0
 
   -- a position is in the result where it holds its name
   unfoldable pub is_merged : ℕ → Bool
@@ -26,14 +26,14 @@ module _ (s : Candidates) where
 
   -- the positions in the result, in its order, behind entry 0
   unfoldable pub merged : List ℕ
-  merged = grouped is_merged group_at_position (length (listed s)) RESULT-GROUPS_lem
+  merged = grouped is_merged group_at_position (length (listed s)) RESULT_GROUPS
 
   -- entries of the result, entry 0 counted; and those of them that are local, as sh_info says
   unfoldable pub merged_count : ℕ
   merged_count = length merged + 1
 
   unfoldable pub local_count : ℕ
-  local_count = length (grouped is_merged group_at_position (length (listed s)) LOCAL-GROUPS_lem) + 1
+  local_count = length (grouped is_merged group_at_position (length (listed s)) LOCAL_GROUPS) + 1
 
   -- the candidate whose symbol is entry k of the result, from 1 on
   unfoldable pub merged_at : ℕ → ℕ

@@ -1,6 +1,8 @@
 // The working names of ids, read from both objects and the table of statics. A working name is a stored name, which is a part of an object, and for a static above
 // level 1 `:` and its count; it stands nowhere in one piece, so it is read and compared by its two parts. Each function equals its definition: `name_of` in the crate
 // symbols_ids, specs/Ids.antt, and its parts in specs/Names.antt. Document 01, "Symbols" and "Statics".
+#![tactic(auto)]
+
 ghost use Rattle.std.specs.Prelude.{◌≡◌, not, ◌&&◌, ◌++◌, ◌+◌, ◌*◌, ◌%◌, ◌≤◌, ◌<◌, length, get_or, eqb};
 ghost use Rattle.base_lists.specs.Strings.{same, name_at};
 ghost use Rattle.base_scope.specs.Limits.{SYMBOL_LIMIT, STATIC_LIMIT};
@@ -16,7 +18,7 @@ use elf_symbols::SymbolTable;
 use statics_table::Static;
 
 // What is in hand to read names: both symbol tables, and how many rows the table of statics has.
-#[derive(Drop)]
+#[derive(Clone, Copy)]
 pub struct Sources {
     pub compiled: SymbolTable,
     pub assembled: SymbolTable,
@@ -179,7 +181,7 @@ fn is_joined_same(a: &[u8], m: u32, b: &[u8], n: u32) -> bool
 }
 
 // What a working name is: empty, `_gp_disp`, or any other.
-#[derive(Drop)]
+#[derive(Clone, Copy)]
 pub struct NameKind {
     pub unnamed: bool,
     pub gp_disp: bool,

@@ -16,7 +16,7 @@ use Rattle.base_lists.specs.Ranges.{count, gather, select}
 use Rattle.base_lists.proofs.Ranges.{by-test, by-lt, count_zero, count_next, count_none, count_le, count_mono, select_all_length, select_all_at}
 use Rattle.base_groups.specs.Groups.{in_group, grouped, grouped_place}
 use Rattle.base_groups.proofs.Groups.{grouped_zero, grouped_long, place_lt}
-use Rattle.symbols_merge.specs.Merged.{RESULT-GROUPS_lem}
+use Rattle.symbols_merge.specs.Merged.{RESULT_GROUPS}
 use Rattle.symbols_rows.specs.Rows.{result_group_in}
 use Rattle.symbols_numbers.specs.Numbers.{holds_in, count_behind, order_in, group_count, group_counts, group_starts}
 
@@ -116,31 +116,31 @@ module _ (T L H : List ℕ) (m : ℕ) where
 
   -- ---- the counts
 
-  pub counts_none : Counting (λ g. 0) RESULT-GROUPS_lem 0 (replicate RESULT-GROUPS_lem 0)
-  counts_none = record { few = omega arith; long = refl; at = λ g h. get_or-replicate RESULT-GROUPS_lem g 0 0 h ∙ rw (count_none_yet g) }
+  pub counts_none : Counting (λ g. 0) RESULT_GROUPS 0 (replicate RESULT_GROUPS 0)
+  counts_none = record { few = omega arith; long = refl; at = λ g h. get_or-replicate RESULT_GROUPS g 0 0 h ∙ rw (count_none_yet g) }
 
-  pub counts_end : (p : ℕ) (a : List ℕ) → Counting (λ g. 0) RESULT-GROUPS_lem p a → m ≤ p → a ≡ group_counts T L H m
+  pub counts_end : (p : ℕ) (a : List ℕ) → Counting (λ g. 0) RESULT_GROUPS p a → m ≤ p → a ≡ group_counts T L H m
   unfolding group_counts
   counts_end p a w h =
       let u = w.few in
       let e : p ≡ m = omega arith in
-      ext_get_or 0 a _ (w.long ∙ sym (select_all_length (group_count T L H m m) RESULT-GROUPS_lem)) (λ g l.
-      let k : g < RESULT-GROUPS_lem = omega (arith, w.long) in
-      w.at g k ∙ zero-add _ ∙ ap (λ (y : ℕ). group_count T L H m y g) e ∙ sym (select_all_at (group_count T L H m m) g RESULT-GROUPS_lem 0 k))
+      ext_get_or 0 a _ (w.long ∙ sym (select_all_length (group_count T L H m m) RESULT_GROUPS)) (λ g l.
+      let k : g < RESULT_GROUPS = omega (arith, w.long) in
+      w.at g k ∙ zero-add _ ∙ ap (λ (y : ℕ). group_count T L H m y g) e ∙ sym (select_all_at (group_count T L H m m) g RESULT_GROUPS 0 k))
 
-  pub counts_small : (p : ℕ) (a : List ℕ) → Counting (λ g. 0) RESULT-GROUPS_lem p a → (g : ℕ) → g < RESULT-GROUPS_lem → get_or a g 0 ≤ m
+  pub counts_small : (p : ℕ) (a : List ℕ) → Counting (λ g. 0) RESULT_GROUPS p a → (g : ℕ) → g < RESULT_GROUPS → get_or a g 0 ≤ m
   counts_small p a w g h = rw (w.at g h) (omega (arith, w.few, count_small p g))
 
   pub record CountAt (a : List ℕ) (g : ℕ) : Type 0 where
-    pub long : length a ≡ RESULT-GROUPS_lem
+    pub long : length a ≡ RESULT_GROUPS
     pub is : get_or a g 0 ≡ group_count T L H m m g
     pub few : get_or a g 0 ≤ m
 
-  pub counts_at : (a : List ℕ) (g : ℕ) → a ≡ group_counts T L H m → g < RESULT-GROUPS_lem → CountAt a g
+  pub counts_at : (a : List ℕ) (g : ℕ) → a ≡ group_counts T L H m → g < RESULT_GROUPS → CountAt a g
   unfolding group_counts
   counts_at a g e h =
-      let q : get_or a g 0 ≡ group_count T L H m m g = rw e (select_all_at (group_count T L H m m) g RESULT-GROUPS_lem 0 h) in
-      record { long = rw e (select_all_length (group_count T L H m m) RESULT-GROUPS_lem); is = q; few = rw q (count_small m g) }
+      let q : get_or a g 0 ≡ group_count T L H m m g = rw e (select_all_at (group_count T L H m m) g RESULT_GROUPS 0 h) in
+      record { long = rw e (select_all_length (group_count T L H m m) RESULT_GROUPS); is = q; few = rw q (count_small m g) }
 
   -- ---- the starts: each is the one before it and the count of its group
 
@@ -171,14 +171,14 @@ module _ (T L H : List ℕ) (m : ℕ) where
 
   -- where the next of each group goes, behind the first p positions
   abbrev pub Nexts : ℕ → List ℕ → Type 0
-  Nexts p a = Counting (λ g. length (order_in T L H m g)) (RESULT-GROUPS_lem + 1) p a
+  Nexts p a = Counting (λ g. length (order_in T L H m g)) (RESULT_GROUPS + 1) p a
 
   pub next_none : (a : List ℕ) → a ≡ group_starts T L H m → Nexts 0 a
   unfolding group_starts
   next_none a e = record {
     few = omega arith;
-    long = rw e (select_all_length (λ k. length (order_in T L H m k)) (RESULT-GROUPS_lem + 1));
-    at = λ g h. rw (e, count_none_yet g) (select_all_at (λ k. length (order_in T L H m k)) g (RESULT-GROUPS_lem + 1) 0 h ∙ sym (add-zero _));
+    long = rw e (select_all_length (λ k. length (order_in T L H m k)) (RESULT_GROUPS + 1));
+    at = λ g h. rw (e, count_none_yet g) (select_all_at (λ k. length (order_in T L H m k)) g (RESULT_GROUPS + 1) 0 h ∙ sym (add-zero _));
   }
 
   -- what a group has behind p positions is at most what it has in all
@@ -192,9 +192,9 @@ module _ (T L H : List ℕ) (m : ℕ) where
     pub is : x ≡ grouped_place (holds_in H) (result_group_in T L) m p
     pub low : p < m → holds_in H p ≡ true → x < m
 
-  module _ (p : ℕ) (a : List ℕ) (w : Nexts p a) (c : ℕ) (e : c ≡ result_group_in T L p) (l : c < RESULT-GROUPS_lem) where
+  module _ (p : ℕ) (a : List ℕ) (w : Nexts p a) (c : ℕ) (e : c ≡ result_group_in T L p) (l : c < RESULT_GROUPS) where
     pub next_moved : (x : ℕ) → x ≡ count_behind H p (get_or a c 0) → p < m → Nexts (p + 1) (set a c x)
-    next_moved x is h = counting_next (λ g. length (order_in T L H m g)) (RESULT-GROUPS_lem + 1) p a w c e (omega arith) x is h
+    next_moved x is h = counting_next (λ g. length (order_in T L H m g)) (RESULT_GROUPS + 1) p a w c e (omega arith) x is h
 
     next_small : get_or a c 0 ≤ m
     next_small = rw (w.at c (omega arith)) (next_few p c w.few)
@@ -206,7 +206,7 @@ module _ (T L H : List ℕ) (m : ℕ) where
     next_lt : p < m → holds_in H p ≡ true → get_or a c 0 < m
     unfolding order_in
     next_lt h t =
-        rw next_is (omega (arith, start_few RESULT-GROUPS_lem, place_lt (holds_in H) (result_group_in T L) m RESULT-GROUPS_lem p h t (rw (← e) l)))
+        rw next_is (omega (arith, start_few RESULT_GROUPS, place_lt (holds_in H) (result_group_in T L) m RESULT_GROUPS p h t (rw (← e) l)))
 
     pub next_at : NextAt p (get_or a c 0)
     next_at = record { small = next_small; is = next_is; low = next_lt }

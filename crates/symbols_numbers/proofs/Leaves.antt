@@ -16,7 +16,7 @@ use Rattle.base_fields.specs.declared.ByteOrder.TheVariants.{Big}
 use Rattle.base_fields.specs.Numbers.{number, encoded}
 use Rattle.base_fields.proofs.Numbers.{length_encoded, number_spliced, number_outside}
 use Rattle.base_packed.specs.declared.MergedSymbol.{MergedSymbol}
-use Rattle.symbols_merge.specs.Merged.{LOCAL-GROUPS_lem}
+use Rattle.symbols_merge.specs.Merged.{LOCAL_GROUPS}
 use Rattle.symbols_rows.specs.declared.IdRow.{IdRow}
 use Rattle.symbols_rows.specs.Rows.{id_row, half_in, result_group_in}
 use Rattle.symbols_rows.proofs.Rows.{row_fields}
@@ -30,7 +30,7 @@ pub group_local : (b : ℕ) → b ≡ STB_LOCAL → binding_group b ≡ 0
 unfolding binding_group
 group_local b e = rw (eq-eqb b STB_LOCAL e)
 
-pub group_other : (b : ℕ) → (b ≡ STB_LOCAL → ⊥) → binding_group b ≡ LOCAL-GROUPS_lem
+pub group_other : (b : ℕ) → (b ≡ STB_LOCAL → ⊥) → binding_group b ≡ LOCAL_GROUPS
 unfolding binding_group
 group_other b d = rw (ne_eqb b STB_LOCAL d)
 

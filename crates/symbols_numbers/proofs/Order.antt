@@ -11,7 +11,7 @@ use Rattle.base_fields.specs.declared.ByteOrder.TheVariants.{Big}
 use Rattle.base_fields.specs.Numbers.{encoded}
 use Rattle.base_groups.specs.Groups.{grouped_place}
 use Rattle.base_groups.proofs.Groups.{stands_at, place_once}
-use Rattle.symbols_merge.specs.Merged.{RESULT-GROUPS_lem}
+use Rattle.symbols_merge.specs.Merged.{RESULT_GROUPS}
 use Rattle.symbols_rows.specs.Rows.{half_in, halves_in, result_group_in}
 use Rattle.symbols_numbers.specs.Numbers.{holds_in, OrderedAt, order_in}
 use Rattle.symbols_numbers.proofs.Leaves.{word_same, word_other}
@@ -43,9 +43,9 @@ module _ (T L H : List ℕ) (m : ℕ) where
         (λ t. record { word = λ q l s. rw (o.put t, e) (put_at h (rw e at (f t)) t q l s) })
         (λ t. record { word = λ q l s. rw (o.kept t) (kept_at t q l s) })
 
-  pub ordering_end : (p : ℕ) (O : List ℕ) → Ordering p O → m ≤ p → halves_in O (length (order_in T L H m RESULT-GROUPS_lem)) ≡ order_in T L H m RESULT-GROUPS_lem
+  pub ordering_end : (p : ℕ) (O : List ℕ) → Ordering p O → m ≤ p → halves_in O (length (order_in T L H m RESULT_GROUPS)) ≡ order_in T L H m RESULT_GROUPS
   unfolding halves_in order_in
-  ordering_end p O w h = select_all_is (order_in T L H m RESULT-GROUPS_lem) (half_in O) 0 (λ j l.
-      let r = stands_at (holds_in H) (result_group_in T L) m RESULT-GROUPS_lem j l in
+  ordering_end p O w h = select_all_is (order_in T L H m RESULT_GROUPS) (half_in O) 0 (λ j l.
+      let r = stands_at (holds_in H) (result_group_in T L) m RESULT_GROUPS j l in
       let e : half_in O (place r.index) ≡ r.index = w.word r.index (omega (arith, r.small)) r.kept in
       ap (half_in O) (sym r.there) ∙ e ∙ sym r.is)

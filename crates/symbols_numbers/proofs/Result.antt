@@ -16,7 +16,7 @@ use Rattle.base_groups.proofs.Holders.{holder_le, holder_holds}
 use Rattle.base_packed.specs.declared.MergedSymbol.{MergedSymbol}
 use Rattle.symbols_merge.specs.Candidates.{Candidates, is_local}
 use Rattle.symbols_merge.specs.Listed.{list_group, listed, position, listed_at, is_alike, holder_of}
-use Rattle.symbols_merge.specs.Merged.{RESULT-GROUPS_lem, LOCAL-GROUPS_lem, result_group, is_merged, group_at_position, merged, merged_count, local_count, merged_at, number_of}
+use Rattle.symbols_merge.specs.Merged.{RESULT_GROUPS, LOCAL_GROUPS, result_group, is_merged, group_at_position, merged, merged_count, local_count, merged_at, number_of}
 use Rattle.symbols_merge.proofs.Names.{alike_parts}
 use Rattle.symbols_merge.proofs.Merged.{Taken, position_lt, listed_position, number_in}
 use Rattle.symbols_merge.proofs.Agree.{Agree, merged_agree, count_agree, locals_agree, number_agree}
@@ -39,7 +39,7 @@ module _ (s : Candidates) where
 
   pub merged_few : merged_count s ≤ length (listed s) + 1
   unfolding merged_count merged
-  merged_few = omega (arith, grouped_few (is_merged s) (group_at_position s) (length (listed s)) RESULT-GROUPS_lem)
+  merged_few = omega (arith, grouped_few (is_merged s) (group_at_position s) (length (listed s)) RESULT_GROUPS)
 
   pub number_few : (i : ℕ) → Taken s i → number_of s i ≤ s.many
   number_few i t = omega (arith, (number_in s i t).1, merged_few, listed_few)
@@ -123,23 +123,23 @@ module _ (T L H : List ℕ) (n m : ℕ) (name : ℕ → List ℕ) where
     unfolding order_in
     order_is k = rw long_is (grouped_same (holds_in H) (is_merged s) (result_group_in T L) (group_at_position s) m holder_is (λ p u t. result_group_is p u) k)
 
-    pub order_merged : order_in T L H m RESULT-GROUPS_lem ≡ merged s
+    pub order_merged : order_in T L H m RESULT_GROUPS ≡ merged s
     unfolding merged
-    order_merged = order_is RESULT-GROUPS_lem
+    order_merged = order_is RESULT_GROUPS
 
-    pub order_of_lem : (O : List ℕ) → 2 * m ≤ length O → halves_in O (length (order_in T L H m RESULT-GROUPS_lem)) ≡ order_in T L H m RESULT-GROUPS_lem → OrderOf s O
+    pub order_of_lem : (O : List ℕ) → 2 * m ≤ length O → halves_in O (length (order_in T L H m RESULT_GROUPS)) ≡ order_in T L H m RESULT_GROUPS → OrderOf s O
     unfolding merged_count
     order_of_lem O u e = record { long = omega (arith, merged_few s, long_is); is = rw order_merged at e }
 
-    start_at : (starts : List ℕ) (k : ℕ) → starts ≡ group_starts T L H m → k < RESULT-GROUPS_lem + 1 → get_or starts k 0 ≡ length (order_in T L H m k)
+    start_at : (starts : List ℕ) (k : ℕ) → starts ≡ group_starts T L H m → k < RESULT_GROUPS + 1 → get_or starts k 0 ≡ length (order_in T L H m k)
     unfolding group_starts
-    start_at starts k e u = rw e (select_all_at (λ g. length (order_in T L H m g)) k (RESULT-GROUPS_lem + 1) 0 u)
+    start_at starts k e u = rw e (select_all_at (λ g. length (order_in T L H m g)) k (RESULT_GROUPS + 1) 0 u)
 
     pub starts_of : (starts : List ℕ) → starts ≡ group_starts T L H m → StartsOf s starts
     unfolding local_count merged_count merged
     starts_of starts e = record {
-      locals = rw (start_at starts LOCAL-GROUPS_lem e (omega arith), order_is LOCAL-GROUPS_lem);
-      all = rw (start_at starts RESULT-GROUPS_lem e (omega arith), order_is RESULT-GROUPS_lem);
+      locals = rw (start_at starts LOCAL_GROUPS e (omega arith), order_is LOCAL_GROUPS);
+      all = rw (start_at starts RESULT_GROUPS e (omega arith), order_is RESULT_GROUPS);
     }
 
     -- ---- the numbers
@@ -203,7 +203,7 @@ module _ (s : Candidates) (O : List ℕ) (w : OrderOf s O) (k : ℕ) (a : 1 ≤ 
   pub entry_lt : half_in O (k - 1) < length (listed s)
   unfolding merged
   entry_lt =
-      let r = stands_at (is_merged s) (group_at_position s) (length (listed s)) RESULT-GROUPS_lem (k - 1) below in
+      let r = stands_at (is_merged s) (group_at_position s) (length (listed s)) RESULT_GROUPS (k - 1) below in
       rw (← entry_word, r.is) r.small
 
 -- ---- what an object's symbol becomes

@@ -8,7 +8,7 @@ use Rattle.base_fields.specs.Numbers.{encoded}
 use Rattle.base_scope.specs.Elf.{STB_LOCAL}
 use Rattle.base_scope.specs.Limits.{ID_LIMIT}
 use Rattle.base_groups.specs.Groups.{in_group, grouped, grouped_place}
-use Rattle.symbols_merge.specs.Merged.{RESULT-GROUPS_lem, LOCAL-GROUPS_lem}
+use Rattle.symbols_merge.specs.Merged.{RESULT_GROUPS, LOCAL_GROUPS}
 use Rattle.symbols_rows.specs.Rows.{half_in, result_group_in}
 use Rattle.symbols_rows.specs.Steps.{Holders}
 use Rattle.symbols_numbers.specs.declared.NewSymbol.{NewSymbol}
@@ -16,7 +16,7 @@ use Rattle.symbols_numbers.specs.declared.NewSymbol.TheVariants.{Merged, Gone}
 
 -- the first group of a binding
 unfoldable pub binding_group : ℕ → ℕ
-binding_group binding = cond (eqb binding STB_LOCAL) 0 LOCAL-GROUPS_lem
+binding_group binding = cond (eqb binding STB_LOCAL) 0 LOCAL_GROUPS
 
 -- position p holds its name
 unfoldable pub holds_in : List ℕ → ℕ → Bool
@@ -74,11 +74,11 @@ module _ (T L H : List ℕ) (m : ℕ) where
   group_count p g = count (in_group (holds_in H) (result_group_in T L) m g) p
 
   unfoldable pub group_counts : List ℕ
-  group_counts = select (λ g. true) (group_count m) RESULT-GROUPS_lem
+  group_counts = select (λ g. true) (group_count m) RESULT_GROUPS
 
   -- entry k: how many symbols the groups below k have
   unfoldable pub group_starts : List ℕ
-  group_starts = select (λ k. true) (λ k. length (order_in k)) (RESULT-GROUPS_lem + 1)
+  group_starts = select (λ k. true) (λ k. length (order_in k)) (RESULT_GROUPS + 1)
 
   -- the number of position p: its holder's place, entry 0 counted
   unfoldable pub number_at : ℕ → ℕ

@@ -1,7 +1,7 @@
 -- Of the code, not of document 01: the order of the result and the numbers of the candidates s in hand, as numbers of a table each, and what an object's symbol becomes.
 use Rattle.std.specs.Prelude.{ℕ, ◌+◌, ◌*◌, ◌≤◌, ◌<◌, ◌≡◌, cond, ◌&&◌, List, length, get_or, ltb}
 use Rattle.symbols_merge.specs.Candidates.{Candidates}
-use Rattle.symbols_merge.specs.Merged.{RESULT-GROUPS_lem, LOCAL-GROUPS_lem, merged, merged_count, local_count, number_of}
+use Rattle.symbols_merge.specs.Merged.{RESULT_GROUPS, LOCAL_GROUPS, merged, merged_count, local_count, number_of}
 use Rattle.symbols_rows.specs.Rows.{half_in, halves_in}
 use Rattle.symbols_numbers.specs.declared.NewSymbol.{NewSymbol}
 use Rattle.symbols_numbers.specs.declared.NewSymbol.TheVariants.{Merged, Gone}
@@ -10,8 +10,8 @@ use Rattle.symbols_numbers.specs.Numbers.{pick_symbol}
 module _ (s : Candidates) where
   -- the starts of the groups in hand: with entry 0, how many entries of the result are local, and how many there are
   pub record StartsOf (starts : List ℕ) : Type 0 where
-    pub locals : get_or starts LOCAL-GROUPS_lem 0 + 1 ≡ local_count s
-    pub all : get_or starts RESULT-GROUPS_lem 0 + 1 ≡ merged_count s
+    pub locals : get_or starts LOCAL_GROUPS 0 + 1 ≡ local_count s
+    pub all : get_or starts RESULT_GROUPS 0 + 1 ≡ merged_count s
 
   -- the order in hand: entry k of the result, from 1 on, is the position in word k - 1
   pub record OrderOf (O : List ℕ) : Type 0 where

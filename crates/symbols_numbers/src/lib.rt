@@ -1,8 +1,10 @@
 // The order of the result's symbols and the number of each id (document 01, "Symbols": "Entry 0, locals (by binding), the rest; `_gp_disp` last in its group"), from the
 // tables of rows, of positions and of holders. Definitions over the tables: specs/Numbers.antt; what they are of the merge of symbols: proofs/Result.antt.
+#![tactic(auto)]
+
 ghost use Rattle.std.specs.Prelude.{◌≡◌, true, cond, ◌+◌, ◌*◌, ◌^◌, ◌≤◌, ◌<◌, length};
 ghost use Rattle.base_scope.specs.Limits.{ID_LIMIT};
-ghost use Rattle.symbols_merge.specs.Merged.{RESULT-GROUPS, LOCAL-GROUPS};
+ghost use Rattle.symbols_merge.specs.Merged.{RESULT_GROUPS, LOCAL_GROUPS};
 ghost use Rattle.symbols_rows.specs.Rows.{half_in, halves_in, result_group_in};
 ghost use Rattle.symbols_rows.specs.Steps.{Position};
 ghost use Rattle.symbols_numbers.specs.Numbers.{binding_group, holds_in, Tables, HoldersFirst, IdRoom, count_behind, OrderedAt, number_on, NumberRoom, NumberedAt, order_in, group_counts, group_starts, IdsNumbered, new_symbol, new_in};
@@ -20,7 +22,7 @@ const LOCAL_GROUPS: usize = 2;
 pub const STARTS: usize = 5;
 
 // What becomes of a symbol of an object: an entry of the result, or none.
-#[derive(Drop)]
+#[derive(Clone, Copy)]
 pub enum NewSymbol {
     Merged(MergedSymbol),
     Gone,
@@ -28,7 +30,7 @@ pub enum NewSymbol {
 
 // The first group of a binding: locals come first.
 fn binding_group(binding: u32) -> usize
-    ensures { (result ≡ binding_group binding) × (result ≤ LOCAL-GROUPS) }
+    ensures { (result ≡ binding_group binding) × (result ≤ LOCAL_GROUPS) }
 {
     if binding == base_scope::STB_LOCAL as u32 {
         return 0;
@@ -46,7 +48,7 @@ fn gp_step(gp: bool) -> usize
 // The group of position p in the result.
 fn result_group(rows: &[u8], list: &[u8], p: usize) -> usize
     requires { Position rows.now list.now p }
-    ensures { (result ≡ result_group_in rows.now list.now p) × (result < RESULT-GROUPS) }
+    ensures { (result ≡ result_group_in rows.now list.now p) × (result < RESULT_GROUPS) }
 {
     let row = symbols_rows::row_at(rows, list, p);
     binding_group(row.binding) + gp_step(row.gp_disp)
@@ -121,8 +123,8 @@ pub fn order_positions(
     order: &mut [u8],
 )
     requires { Tables rows.now list.now holders.now m × (starts ≡ group_starts rows.now list.now holders.now m) × (2 * m ≤ length order.old) }
-    ensures { halves_in order.new (length (order_in rows.now list.now holders.now m RESULT-GROUPS))
-        ≡ order_in rows.now list.now holders.now m RESULT-GROUPS }
+    ensures { halves_in order.new (length (order_in rows.now list.now holders.now m RESULT_GROUPS))
+        ≡ order_in rows.now list.now holders.now m RESULT_GROUPS }
 {
     let mut next = starts;
     let mut p: usize = 0;

@@ -1,5 +1,7 @@
 // The tables of the symbol merge: rows of ids, read and written; the list of ids, defined ones first; and refusals 18 and 19 over it. Each function equals its definition in
 // specs/, over the tables it reads; proofs/Tables.antt says what that is of the merge of candidates (`symbols_merge`).
+#![tactic(auto)]
+
 ghost use Rattle.std.specs.Prelude.{◌≡◌, Bool, true, cond, [], ◌∷◌, ◌+◌, ◌*◌, ◌^◌, ◌≤◌, ◌<◌, length};
 ghost use Rattle.base_lists.specs.Ranges.{first, pick_list};
 ghost use Rattle.base_lists.specs.Windows.{spliced};
@@ -13,7 +15,7 @@ use base_fields::ByteOrder;
 use base_scope::Finding;
 
 // What the merge asks of an id: whether it is taken, has no name, or the name `_gp_disp`; its binding; its section and value in the result.
-#[derive(Drop)]
+#[derive(Clone, Copy)]
 pub struct IdRow {
     pub taken: bool,
     pub unnamed: bool,

@@ -41,7 +41,7 @@ use Rattle.statics_walk.specs.Sound.{StaticsSound}
 use Rattle.statics_walk.proofs.Sound.{statics_sound}
 use Rattle.symbols_merge.specs.Candidates.{Candidates}
 use Rattle.symbols_merge.specs.Listed.{symbols_verdict}
-use Rattle.symbols_merge.specs.Merged.{RESULT-GROUPS_lem, LOCAL-GROUPS_lem, merged_count, local_count}
+use Rattle.symbols_merge.specs.Merged.{RESULT_GROUPS, LOCAL_GROUPS, merged_count, local_count}
 use Rattle.symbols_taken.specs.Taken.{taken_verdict}
 use Rattle.symbols_taken.specs.Passed.{TakenPassed}
 use Rattle.symbols_taken.specs.Code.{used_bytes, LateIn, StepIn}
@@ -80,14 +80,14 @@ never x y z n e = let q : ◌≡◌ {A = ℕ} 0 1 = cc in omega arith
 -- ---- 18 and 19, and the numbers
 
 module _ (T L H : List ℕ) (m : ℕ) where
-  start_at : (starts : List ℕ) (k : ℕ) → starts ≡ group_starts T L H m → k < RESULT-GROUPS_lem + 1 → get_or starts k 0 ≡ length (order_in T L H m k)
+  start_at : (starts : List ℕ) (k : ℕ) → starts ≡ group_starts T L H m → k < RESULT_GROUPS + 1 → get_or starts k 0 ≡ length (order_in T L H m k)
   unfolding group_starts
-  start_at starts k e u = rw e (select_all_at (λ g. length (order_in T L H m g)) k (RESULT-GROUPS_lem + 1) 0 u)
+  start_at starts k e u = rw e (select_all_at (λ g. length (order_in T L H m g)) k (RESULT_GROUPS + 1) 0 u)
 
-  pub counts_low : Tables T L H m → (starts : List ℕ) → starts ≡ group_starts T L H m → (get_or starts LOCAL-GROUPS_lem 0 ≤ ID_LIMIT) × (get_or starts RESULT-GROUPS_lem 0 ≤ ID_LIMIT)
+  pub counts_low : Tables T L H m → (starts : List ℕ) → starts ≡ group_starts T L H m → (get_or starts LOCAL_GROUPS 0 ≤ ID_LIMIT) × (get_or starts RESULT_GROUPS 0 ≤ ID_LIMIT)
   counts_low w starts e = (
-    omega (arith, start_at starts LOCAL-GROUPS_lem e (omega arith), start_few T L H m LOCAL-GROUPS_lem, w.few),
-    omega (arith, start_at starts RESULT-GROUPS_lem e (omega arith), start_few T L H m RESULT-GROUPS_lem, w.few),
+    omega (arith, start_at starts LOCAL_GROUPS e (omega arith), start_few T L H m LOCAL_GROUPS, w.few),
+    omega (arith, start_at starts RESULT_GROUPS e (omega arith), start_few T L H m RESULT_GROUPS, w.few),
   )
 
   module _ (ids statics : ℕ) (v : Verdict) (is : v ≡ verdict_in T L H m) (index : List ℕ) where

@@ -25,7 +25,7 @@ use Rattle.merge_sections.specs.declared.Stage.{Stage}
 use Rattle.statics_walk.specs.declared.Listing.{Listing}
 use Rattle.statics_walk.specs.Walk.{statics_fault, statics}
 use Rattle.statics_walk.specs.Code.{StaticsListed}
-use Rattle.symbols_merge.specs.Merged.{RESULT-GROUPS_lem}
+use Rattle.symbols_merge.specs.Merged.{RESULT_GROUPS}
 use Rattle.symbols_taken.specs.Code.{used_bytes, LateIn, taken_in}
 use Rattle.symbols_taken.proofs.Marks.{used_within}
 use Rattle.symbols_glabels.specs.Words.{glabel_word, Holds, GlabelsReady}
@@ -199,7 +199,7 @@ module _ (T L H : List ℕ) (m from to : ℕ) (index : List ℕ) (room : INDEX_B
     pub order_room : Tables T L H m → 2 * m ≤ length (lent from to index)
     order_room w = omega (arith, order_long, w.few)
 
-    pub order_of_lem : (part : List ℕ) → length part ≡ length (lent from to index) → halves_in part (length (order_in T L H m RESULT-GROUPS_lem)) ≡ order_in T L H m RESULT-GROUPS_lem
+    pub order_of_lem : (part : List ℕ) → length part ≡ length (lent from to index) → halves_in part (length (order_in T L H m RESULT_GROUPS)) ≡ order_in T L H m RESULT_GROUPS
         → OrderLeft T L H m (put_back from to index part)
     order_of_lem part same w =
         let put = put_table 0 POSITION_TABLE from to index part (put_back from to index part) starts ends (omega (arith, room)) same refl in

@@ -11,7 +11,7 @@ use Rattle.merge_buffers.specs.Buffers.{ROWS_AT, HOLDERS_AT, USED_AT, STATIC_AT,
 use Rattle.merge_sections.specs.declared.Stage.{Stage}
 use Rattle.statics_table.specs.Table.{statics_in}
 use Rattle.statics_walk.specs.Walk.{statics}
-use Rattle.symbols_merge.specs.Merged.{RESULT-GROUPS_lem, LOCAL-GROUPS_lem, local_count}
+use Rattle.symbols_merge.specs.Merged.{RESULT_GROUPS, LOCAL_GROUPS, local_count}
 use Rattle.symbols_ids.specs.Ids.{merge_candidates}
 use Rattle.symbols_rows.specs.Rows.{HoldersOf}
 use Rattle.symbols_rows.specs.Steps.{verdict_in}
@@ -35,7 +35,7 @@ end_verdict (Unnumbered number object place) = Refused number object place
 
 -- counts by the starts of the groups; what the rows are filled by
 unfoldable pub counts_of : ℕ → List ℕ → Counts
-counts_of n starts = record { statics = n; locals = get_or starts LOCAL-GROUPS_lem 0 + 1; count = get_or starts RESULT-GROUPS_lem 0 + 1 }
+counts_of n starts = record { statics = n; locals = get_or starts LOCAL_GROUPS 0 + 1; count = get_or starts RESULT_GROUPS 0 + 1 }
 
 unfoldable pub filling_of : Stage → ℕ → ℕ → Filling
 filling_of s mode n = record {

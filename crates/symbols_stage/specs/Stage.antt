@@ -14,7 +14,7 @@ use Rattle.statics_walk.specs.declared.Listing.{Listing}
 use Rattle.statics_walk.specs.Walk.{statics_fault, statics}
 use Rattle.statics_walk.specs.Code.{StaticsListed}
 use Rattle.symbols_merge.specs.Candidates.{Candidates}
-use Rattle.symbols_merge.specs.Merged.{RESULT-GROUPS_lem}
+use Rattle.symbols_merge.specs.Merged.{RESULT_GROUPS}
 use Rattle.symbols_taken.specs.Code.{used_bytes, taken_in}
 use Rattle.symbols_glabels.specs.Words.{glabel_word, Holds}
 use Rattle.symbols_rows.specs.Rows.{half_in, halves_in, HoldersOf}
@@ -62,7 +62,7 @@ pub record IdRooms (L : List ℕ) (m n : ℕ) : Type 0 where
 
 -- the order of the result by the tables T of id rows, L of positions and H of holders, over the index
 pub record OrderLeft (T L H : List ℕ) (m : ℕ) (after : List ℕ) : Type 0 where
-  pub order : halves_in (order_part after) (length (order_in T L H m RESULT-GROUPS_lem)) ≡ order_in T L H m RESULT-GROUPS_lem
+  pub order : halves_in (order_part after) (length (order_in T L H m RESULT_GROUPS)) ≡ order_in T L H m RESULT_GROUPS
 
 -- and the numbers of n ids behind it
 pub record NumbersLeft (T L H : List ℕ) (m n : ℕ) (before after : List ℕ) : Type 0 where

@@ -1,5 +1,7 @@
 // The symbols of a merge behind its late step, in document 01's order of refusals: 15 and 16, 17, then 18 and 19 over the list, and the numbers of the result. Tables stand in
 // the working buffers of `merge_buffers`; what each function leaves in them is in specs/Stage.antt. `merge_symbols` equals `symbol_stages_verdict` of specs/Verdict.antt.
+#![tactic(auto)]
+
 ghost use Rattle.std.specs.Prelude.{◌≡◌, ◌*◌, ◌≤◌, length, get_or};
 ghost use Rattle.base_lists.specs.Windows.{Within};
 ghost use Rattle.base_scope.specs.Limits.{FILE_LIMIT, HEAD_LIMIT, ID_LIMIT};
@@ -11,7 +13,7 @@ ghost use Rattle.blocks_file.specs.Blocks.{block_count};
 ghost use Rattle.blocks_places.specs.Lines.{line_count};
 ghost use Rattle.blocks_places.specs.Table.{places_in, Laid};
 ghost use Rattle.merge_sections.specs.Stages.{StageRead, Movable};
-ghost use Rattle.symbols_merge.specs.Merged.{RESULT-GROUPS, LOCAL-GROUPS};
+ghost use Rattle.symbols_merge.specs.Merged.{RESULT_GROUPS, LOCAL_GROUPS};
 ghost use Rattle.symbols_taken.specs.Passed.{TakenPassed};
 ghost use Rattle.symbols_taken.specs.Code.{used_bytes, LateIn, taken_in};
 ghost use Rattle.symbols_holders.specs.Ready.{symbols_in, HoldersReady};
@@ -32,7 +34,7 @@ use symbols_fill::Filling;
 use symbols_names::Sources;
 
 // How statics are taken over: the mode, and how many bytes it puts in front of a name.
-#[derive(Drop)]
+#[derive(Clone, Copy)]
 pub struct Manner {
     pub mode: u32,
     pub head: u32,
@@ -259,7 +261,7 @@ fn number_positions(
 }
 
 // How many statics there are, how many entries of the result are local, and how many it has, entry 0 counted in both.
-#[derive(Drop)]
+#[derive(Clone, Copy)]
 pub struct Counts {
     pub statics: usize,
     pub locals: usize,
@@ -267,7 +269,7 @@ pub struct Counts {
 }
 
 // What the symbol merge answers: the counts of the result, whose symbols are numbered then, or a refusal.
-#[derive(Drop)]
+#[derive(Clone, Copy)]
 pub enum SymbolsEnd {
     Numbered(Counts),
     Refused(u32, u32, u64),
@@ -275,7 +277,7 @@ pub enum SymbolsEnd {
 
 // The counts by the starts of the groups.
 fn counts_of(statics: usize, starts: [usize; symbols_numbers::STARTS]) -> Counts
-    requires { (get_or starts LOCAL-GROUPS 0 ≤ ID_LIMIT) × (get_or starts RESULT-GROUPS 0 ≤ ID_LIMIT) }
+    requires { (get_or starts LOCAL_GROUPS 0 ≤ ID_LIMIT) × (get_or starts RESULT_GROUPS 0 ≤ ID_LIMIT) }
     ensures { result ≡ counts_of statics starts }
 {
     let locals = starts[2] + 1;

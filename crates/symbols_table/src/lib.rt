@@ -1,6 +1,8 @@
 // The symbol table of a merge's result, entry by entry, from the tables of the symbol merge: the order, the list and the rows of the ids, and the entry of an id
 // (`symbols_entries`). Each function equals its definition in specs/Table.antt; proofs/Table.antt says that what is written is `result_symbols` of the crate symbols_ids.
 // Document 01, "Symbols".
+#![tactic(auto)]
+
 ghost use Rattle.std.specs.Prelude.{◌≡◌, ◌+◌, ◌*◌, ◌≤◌, ◌<◌, length};
 ghost use Rattle.base_lists.specs.Windows.{spliced};
 ghost use Rattle.symbols_ids.specs.Table.{null_entry};

@@ -9,7 +9,7 @@ use borrow.Author.Tests.{lt-ltb, le-ltb, eq-eqb, ne_eqb}
 use Rattle.base_lists.specs.Ranges.{first}
 use Rattle.base_lists.proofs.Ranges.{by-test}
 use Rattle.base_fields.specs.declared.ByteOrder.{ByteOrder}
-use Rattle.base_scope.specs.Codes.{LATE-RODATA_lem, CODES, target_code}
+use Rattle.base_scope.specs.Codes.{LATE_RODATA, CODES, target_code}
 use Rattle.base_scope.specs.Elf.{SHN_UNDEF, SHN_ABS}
 use Rattle.base_scope.specs.declared.Finding.{Finding}
 use Rattle.base_scope.specs.declared.Finding.TheVariants.{Clear, At}
@@ -37,16 +37,16 @@ use Rattle.symbols_taken.proofs.Symbols.{taken_plain}
 -- the target of a code is a code
 pub target_low : (c : ℕ) → 1 ≤ c → c ≤ CODES → (1 ≤ target_code c) × (target_code c ≤ CODES)
 unfolding target_code
-target_low c l h = by-test (eqb c LATE-RODATA_lem) (λ t. rw t (omega arith, omega arith)) (λ f. rw f (l, h))
+target_low c l h = by-test (eqb c LATE_RODATA) (λ t. rw t (omega arith, omega arith)) (λ f. rw f (l, h))
 
 module _ (w v : View) (s : ℕ) where
-  pub target_read : (c t : ℕ) (r : Bool) → c ≡ code_in v s → c ≤ LATE-RODATA_lem → t ≡ target_code c → r ≡ has_in w t → r ≡ has_target_in w v s
+  pub target_read : (c t : ℕ) (r : Bool) → c ≡ code_in v s → c ≤ LATE_RODATA → t ≡ target_code c → r ≡ has_in w t → r ≡ has_target_in w v s
   unfolding has_target_in is_source_in
-  target_read c t r e h f is = rw (← e, lt-ltb c (LATE-RODATA_lem + 1) (omega arith), is, f)
+  target_read c t r e h f is = rw (← e, lt-ltb c (LATE_RODATA + 1) (omega arith), is, f)
 
-  pub target_none : (c : ℕ) → c ≡ code_in v s → LATE-RODATA_lem < c → false ≡ has_target_in w v s
+  pub target_none : (c : ℕ) → c ≡ code_in v s → LATE_RODATA < c → false ≡ has_target_in w v s
   unfolding has_target_in is_source_in
-  target_none c e h = rw (← e, le-ltb c (LATE-RODATA_lem + 1) (omega arith))
+  target_none c e h = rw (← e, le-ltb c (LATE_RODATA + 1) (omega arith))
 
   pub lacks_undefined : s ≡ SHN_UNDEF → false ≡ lacks_target_in w v s
   unfolding lacks_target_in is_placed_in
@@ -126,10 +126,10 @@ module _ (runs : Bool) (late : List ℕ) (n x : ℕ) where
 
 module _ (o : ByteOrder) (A : List ℕ) (runs : Bool) (late : List ℕ) (n k : ℕ) where
   -- b says whether the symbol's section is .late_rodata
-  module _ (v : View) (is : v ≡ view_of o A) (e : SymbolEntry) (b : Bool) (entry : e ≡ symbol o A k) (told : b ≡ eqb (code_in v e.st_shndx) LATE-RODATA_lem) where
-    late_read : b ≡ eqb (symbol_code o A k) LATE-RODATA_lem
+  module _ (v : View) (is : v ≡ view_of o A) (e : SymbolEntry) (b : Bool) (entry : e ≡ symbol o A k) (told : b ≡ eqb (code_in v e.st_shndx) LATE_RODATA) where
+    late_read : b ≡ eqb (symbol_code o A k) LATE_RODATA
     unfolding symbol_code
-    late_read = told ∙ ap (λ (x : ℕ). eqb x LATE-RODATA_lem) (code_is o A v is e.st_shndx ∙ ap (λ (x : SymbolEntry). code_of o A x.st_shndx) entry)
+    late_read = told ∙ ap (λ (x : ℕ). eqb x LATE_RODATA) (code_is o A v is e.st_shndx ∙ ap (λ (x : SymbolEntry). code_of o A x.st_shndx) entry)
 
     pub unmoved_other : b ≡ false → false ≡ is_unmoved_in o A runs late n k
     unfolding is_unmoved_in

@@ -5,10 +5,10 @@ use mathlib.Core.Bool.{Bool, true, false, not, ◌&&◌, ◌||◌}
 use mathlib.Core.List.{List}
 use mathlib.Core.Logic.{◌⊎◌, inl, inr, ◌≢◌}
 use lib.Dec.{eqb}
-use borrow.Author.Tests.{eq-eqb, eqb-true, eqb-false, not_false}
+use borrow.Author.Tests.{eq-eqb, eqb-true, eqb-false, not-false}
 use Rattle.base_lists.proofs.Ranges.{by-test, or_parts, and_parts}
 use Rattle.base_fields.specs.declared.ByteOrder.{ByteOrder}
-use Rattle.base_scope.specs.Codes.{LATE-RODATA_lem, target_code}
+use Rattle.base_scope.specs.Codes.{LATE_RODATA, target_code}
 use Rattle.base_scope.specs.Elf.{SHN_UNDEF, SHN_ABS}
 use Rattle.base_scope.specs.declared.Finding.TheVariants.{Clear}
 use Rattle.base_scope.specs.Refusals.{SYMBOL_SECTION, LATE_SYMBOL, found_below}
@@ -31,7 +31,7 @@ use Rattle.symbols_taken.specs.Passed.{Targeted, TakenPassed}
 -- ---- refusal 16 where the late step does not run
 
 -- nothing is moved then, so a taken symbol of .late_rodata is at fault
-pub idle_unmoved : (o : ByteOrder) (A : List ℕ) (P : List Place) (B : List ℕ) (k : ℕ) → has_late_step P B ≡ false → is_taken_a o A k ≡ true → symbol_code o A k ≡ LATE-RODATA_lem
+pub idle_unmoved : (o : ByteOrder) (A : List ℕ) (P : List Place) (B : List ℕ) (k : ℕ) → has_late_step P B ≡ false → is_taken_a o A k ≡ true → symbol_code o A k ≡ LATE_RODATA
     → is_unmoved o A P B k ≡ true
 unfolding is_unmoved
 idle_unmoved o A P B k idle t e =
@@ -67,16 +67,16 @@ module _ (o : ByteOrder) (C A : List ℕ) (k : ℕ) (clear : is_homeless o C A k
       (λ e. inl (eqb-true x SHN_UNDEF e))
       (λ n. by-test (eqb x SHN_ABS)
       (λ e. inr (inl (eqb-true x SHN_ABS e)))
-      (λ m. inr (inr (targeted (not_false (has_target o C A k) (rw (n, m) at f))))))
+      (λ m. inr (inr (targeted (not-false (has_target o C A k) (rw (n, m) at f))))))
 
-module _ (o : ByteOrder) (A : List ℕ) (P : List Place) (B : List ℕ) (k : ℕ) (clear : is_unmoved o A P B k ≡ false) (t : is_taken_a o A k ≡ true) (e : symbol_code o A k ≡ LATE-RODATA_lem) where
+module _ (o : ByteOrder) (A : List ℕ) (P : List Place) (B : List ℕ) (k : ℕ) (clear : is_unmoved o A P B k ≡ false) (t : is_taken_a o A k ≡ true) (e : symbol_code o A k ≡ LATE_RODATA) where
   late_parts : (eqb (symbol o A k).st_value 0 ≡ false) × (not (is_moved P B (late_start o A) (symbol o A k).st_value) ≡ false)
   unfolding is_unmoved
   late_parts =
       or_parts (eqb (symbol o A k).st_value 0) (not (is_moved P B (late_start o A) (symbol o A k).st_value)) (rw (t, eq-eqb _ _ e) at clear)
 
   pub clear_moved : is_moved P B (late_start o A) (symbol o A k).st_value ≡ true
-  clear_moved = not_false (is_moved P B (late_start o A) (symbol o A k).st_value) late_parts.1
+  clear_moved = not-false (is_moved P B (late_start o A) (symbol o A k).st_value) late_parts.1
 
   pub clear_valued : (symbol o A k).st_value ≢ 0
   clear_valued = eqb-false (symbol o A k).st_value 0 late_parts.0

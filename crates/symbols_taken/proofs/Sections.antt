@@ -9,7 +9,7 @@ use borrow.Author.Tests.{eqb-true, lt-ltb, le-ltb, le-leb, lt-leb}
 use Rattle.base_lists.specs.Ranges.{first}
 use Rattle.base_lists.proofs.Ranges.{by-lt, first_low_lem, first_high, first_is, first_ext, and_parts}
 use Rattle.base_fields.specs.declared.ByteOrder.{ByteOrder}
-use Rattle.base_scope.specs.Codes.{TEXT, LATE-RODATA_lem, CODES}
+use Rattle.base_scope.specs.Codes.{TEXT, LATE_RODATA, CODES}
 use Rattle.elf_records.specs.declared.section.SectionHeader.{SectionHeader}
 use Rattle.elf_readers.specs.Readers.{section}
 use Rattle.elf_relocations.specs.Relocations.{is_table}
@@ -24,26 +24,26 @@ module _ (v : View) (s : ℕ) where
   unfolding is_section_in
   section_read c i h r e f is = rw (is, e, f)
 
-  pub code_found : (c : ℕ) → first (is_section_in v s) TEXT (LATE-RODATA_lem + 1) ≡ c → c ≡ code_in v s
+  pub code_found : (c : ℕ) → first (is_section_in v s) TEXT (LATE_RODATA + 1) ≡ c → c ≡ code_in v s
   unfolding code_in
   code_found c e = sym e
 
   pub code_range : (1 ≤ code_in v s) × (code_in v s ≤ CODES)
   unfolding code_in
-  code_range = (first_low_lem (is_section_in v s) TEXT (LATE-RODATA_lem + 1), first_high (is_section_in v s) TEXT (LATE-RODATA_lem + 1) (omega arith))
+  code_range = (first_low_lem (is_section_in v s) TEXT (LATE_RODATA + 1), first_high (is_section_in v s) TEXT (LATE_RODATA + 1) (omega arith))
 
   -- a section of the last of the five is the one that the view has for it
-  pub late_section : code_in v s ≡ LATE-RODATA_lem → section_in v LATE-RODATA_lem ≡ s
+  pub late_section : code_in v s ≡ LATE_RODATA → section_in v LATE_RODATA ≡ s
   unfolding code_in is_section_in
   late_section e =
-      let t : is_section_in v s (first (is_section_in v s) TEXT (LATE-RODATA_lem + 1)) ≡ true = (first_is (is_section_in v s) TEXT (LATE-RODATA_lem + 1) (omega arith)).here (omega (arith, e)) in
-      eqb-true _ _ (and_parts (has_in v LATE-RODATA_lem) (eqb (section_in v LATE-RODATA_lem) s) (ap (is_section_in v s) (sym e) ∙ t)).1
+      let t : is_section_in v s (first (is_section_in v s) TEXT (LATE_RODATA + 1)) ≡ true = (first_is (is_section_in v s) TEXT (LATE_RODATA + 1) (omega arith)).here (omega (arith, e)) in
+      eqb-true _ _ (and_parts (has_in v LATE_RODATA) (eqb (section_in v LATE_RODATA) s) (ap (is_section_in v s) (sym e) ∙ t)).1
 
-  pub source_read : (c : ℕ) → c ≡ code_in v s → leb c LATE-RODATA_lem ≡ is_source_in v s
+  pub source_read : (c : ℕ) → c ≡ code_in v s → leb c LATE_RODATA ≡ is_source_in v s
   unfolding is_source_in
-  source_read c e = rw (← e) (by-lt LATE-RODATA_lem c
-      (λ h. lt-leb c LATE-RODATA_lem h ∙ sym (le-ltb c (LATE-RODATA_lem + 1) (omega arith)))
-      (λ h. le-leb c LATE-RODATA_lem h ∙ sym (lt-ltb c (LATE-RODATA_lem + 1) (omega arith))))
+  source_read c e = rw (← e) (by-lt LATE_RODATA c
+      (λ h. lt-leb c LATE_RODATA h ∙ sym (le-ltb c (LATE_RODATA + 1) (omega arith)))
+      (λ h. le-leb c LATE_RODATA h ∙ sym (lt-ltb c (LATE_RODATA + 1) (omega arith))))
 
 -- of an object that is read by its view
 module _ (o : ByteOrder) (A : List ℕ) (v : View) (is : v ≡ view_of o A) where
@@ -53,7 +53,7 @@ module _ (o : ByteOrder) (A : List ℕ) (v : View) (is : v ≡ view_of o A) wher
 
   pub code_is : (s : ℕ) → code_in v s ≡ code_of o A s
   unfolding code_in code_of
-  code_is s = first_ext (is_section_in v s) (is_section_of o A s) TEXT (LATE-RODATA_lem + 1) (λ c l u. section_is s c l (omega arith))
+  code_is s = first_ext (is_section_in v s) (is_section_of o A s) TEXT (LATE_RODATA + 1) (λ c l u. section_is s c l (omega arith))
 
   pub source_is : (s : ℕ) → is_source_in v s ≡ is_source o A s
   unfolding is_source_in is_source

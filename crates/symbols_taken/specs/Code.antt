@@ -5,7 +5,7 @@ use Rattle.base_lists.specs.Ranges.{first, select}
 use Rattle.base_lists.specs.Rows.{has_row}
 use Rattle.base_lists.specs.Windows.{Within}
 use Rattle.base_fields.specs.declared.ByteOrder.{ByteOrder}
-use Rattle.base_scope.specs.Codes.{TEXT, LATE-RODATA_lem, target_code}
+use Rattle.base_scope.specs.Codes.{TEXT, LATE_RODATA, target_code}
 use Rattle.base_scope.specs.Refusals.{SYMBOL_SECTION, LATE_SYMBOL, found_below}
 use Rattle.base_answers.specs.declared.Verdict.{Verdict}
 use Rattle.base_answers.specs.Answers.{ASSEMBLED}
@@ -31,10 +31,10 @@ unfoldable pub is_section_in : View → ℕ → ℕ → Bool
 is_section_in v s c = has_in v c && eqb (section_in v c) s
 
 unfoldable pub code_in : View → ℕ → ℕ
-code_in v s = first (is_section_in v s) TEXT (LATE-RODATA_lem + 1)
+code_in v s = first (is_section_in v s) TEXT (LATE_RODATA + 1)
 
 unfoldable pub is_source_in : View → ℕ → Bool
-is_source_in v s = ltb (code_in v s) (LATE-RODATA_lem + 1)
+is_source_in v s = ltb (code_in v s) (LATE_RODATA + 1)
 
 -- ---- the marks of used symbols
 
@@ -99,7 +99,7 @@ is_unmoved_value runs late n x = eqb x 0 || not (is_moved_in runs late n x)
 
 module _ (o : ByteOrder) (A : List ℕ) (runs : Bool) (late : List ℕ) (n : ℕ) where
   unfoldable pub is_unmoved_in : ℕ → Bool
-  is_unmoved_in k = is_taken_a o A k && (eqb (symbol_code o A k) LATE-RODATA_lem && is_unmoved_value runs late n (symbol o A k).st_value)
+  is_unmoved_in k = is_taken_a o A k && (eqb (symbol_code o A k) LATE_RODATA && is_unmoved_value runs late n (symbol o A k).st_value)
 
   unfoldable pub unmoved_in : ℕ
   unmoved_in = first is_unmoved_in 0 (symbol_count o A)

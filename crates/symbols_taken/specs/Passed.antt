@@ -2,7 +2,7 @@
 use Rattle.std.specs.Prelude.{ℕ, ◌<◌, ◌≡◌, ◌⊎◌, ◌≢◌, true, false, List}
 use Rattle.base_fields.specs.declared.ByteOrder.{ByteOrder}
 use Rattle.base_scope.specs.Elf.{SHN_UNDEF, SHN_ABS}
-use Rattle.base_scope.specs.Codes.{LATE-RODATA_lem, target_code}
+use Rattle.base_scope.specs.Codes.{LATE_RODATA, target_code}
 use Rattle.elf_readers.specs.Readers.{has_code}
 use Rattle.elf_symbols.specs.Symbols.{symbol_count, symbol}
 use Rattle.blocks_places.specs.Places.{Place}
@@ -22,5 +22,5 @@ pub record TakenPassed (o : ByteOrder) (C A : List ℕ) (P : List Place) (B : Li
       → ((symbol o A k).st_shndx ≡ SHN_UNDEF) ⊎ (((symbol o A k).st_shndx ≡ SHN_ABS) ⊎ Targeted o C A k)
   pub plain : (k : ℕ) → k < symbol_count o A → is_used o A k ≡ true → is_helper o A k ≡ false
   -- 16: a taken symbol of .late_rodata is moved, and its value is not 0
-  pub moved : (k : ℕ) → k < symbol_count o A → is_taken_a o A k ≡ true → symbol_code o A k ≡ LATE-RODATA_lem → is_moved P B (late_start o A) (symbol o A k).st_value ≡ true
-  pub valued : (k : ℕ) → k < symbol_count o A → is_taken_a o A k ≡ true → symbol_code o A k ≡ LATE-RODATA_lem → (symbol o A k).st_value ≢ 0
+  pub moved : (k : ℕ) → k < symbol_count o A → is_taken_a o A k ≡ true → symbol_code o A k ≡ LATE_RODATA → is_moved P B (late_start o A) (symbol o A k).st_value ≡ true
+  pub valued : (k : ℕ) → k < symbol_count o A → is_taken_a o A k ≡ true → symbol_code o A k ≡ LATE_RODATA → (symbol o A k).st_value ≢ 0

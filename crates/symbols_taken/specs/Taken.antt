@@ -6,7 +6,7 @@ use Rattle.base_lists.specs.Strings.{prefixed}
 use Rattle.base_fields.specs.declared.ByteOrder.{ByteOrder}
 use Rattle.base_scope.specs.Text.{text}
 use Rattle.base_scope.specs.Elf.{SHN_UNDEF, SHN_ABS}
-use Rattle.base_scope.specs.Codes.{LATE-RODATA_lem, target_code}
+use Rattle.base_scope.specs.Codes.{LATE_RODATA, target_code}
 use Rattle.base_scope.specs.declared.Finding.{Finding}
 use Rattle.base_scope.specs.Refusals.{SYMBOL_SECTION, LATE_SYMBOL, found_below}
 use Rattle.base_answers.specs.declared.Verdict.{Verdict}
@@ -64,7 +64,7 @@ module _ (o : ByteOrder) (A : List ℕ) (P : List Place) (B : List ℕ) where
   unfoldable pub is_unmoved : ℕ → Bool
   is_unmoved k =
       is_taken_a o A k
-      && (eqb (symbol_code o A k) LATE-RODATA_lem && (eqb (symbol o A k).st_value 0 || not (is_moved P B (late_start o A) (symbol o A k).st_value)))
+      && (eqb (symbol_code o A k) LATE_RODATA && (eqb (symbol o A k).st_value 0 || not (is_moved P B (late_start o A) (symbol o A k).st_value)))
 
   unfoldable pub unmoved_at : ℕ
   unmoved_at = first is_unmoved 0 (symbol_count o A)

@@ -4,7 +4,7 @@ use Rattle.std.specs.Prelude.{ℕ, ◌+◌, Bool, ◌&&◌, List, eqb, ltb}
 use Rattle.base_lists.specs.Ranges.{first}
 use Rattle.base_lists.specs.Rows.{has_row}
 use Rattle.base_fields.specs.declared.ByteOrder.{ByteOrder}
-use Rattle.base_scope.specs.Codes.{TEXT, LATE-RODATA_lem}
+use Rattle.base_scope.specs.Codes.{TEXT, LATE_RODATA}
 use Rattle.base_packed.specs.Packed.{symbol_of}
 use Rattle.elf_readers.specs.Readers.{section_count, section, coded_section, has_code}
 use Rattle.elf_relocations.specs.Relocations.{is_table, relocation_count, relocation}
@@ -16,10 +16,10 @@ module _ (o : ByteOrder) (A : List ℕ) where
 
   -- the code of section s, among 1 to 5; the code behind them where it is none of the five. Codes have different sections (elf_readers, `codes_apart`).
   unfoldable pub code_of : ℕ → ℕ
-  code_of s = first (is_section_of s) TEXT (LATE-RODATA_lem + 1)
+  code_of s = first (is_section_of s) TEXT (LATE_RODATA + 1)
 
   unfoldable pub is_source : ℕ → Bool
-  is_source s = ltb (code_of s) (LATE-RODATA_lem + 1)
+  is_source s = ltb (code_of s) (LATE_RODATA + 1)
 
   -- table t relocates one of the five, whether that one holds bytes or not
   unfoldable pub is_source_table : ℕ → Bool

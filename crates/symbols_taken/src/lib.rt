@@ -1,11 +1,13 @@
 // Which symbols a merge takes over from C and A, and refusals 15 and 16 (specs/Used.antt, specs/Taken.antt). Each function equals its definition; where the code is given a
 // view or a table in place of C and the block file, that of specs/Code.antt, and a law says what it is of them (proofs/InHand.antt, `taken_is`).
+#![tactic(auto)]
+
 ghost use Rattle.std.specs.Prelude.{◌≡◌, true, not, ◌&&◌, ◌+◌, ◌≤◌, ◌<◌, eqb, ltb, length, get_or};
 ghost use Rattle.base_lists.specs.Strings.{prefixed, name_at};
 ghost use Rattle.base_lists.specs.Windows.{Within, spliced};
 ghost use Rattle.base_packed.specs.Packed.{symbol_of};
 ghost use Rattle.base_buffers.specs.Buffers.{zeros};
-ghost use Rattle.base_scope.specs.Codes.{LATE-RODATA, CODES};
+ghost use Rattle.base_scope.specs.Codes.{LATE_RODATA, CODES};
 ghost use Rattle.base_scope.specs.Limits.{SYMBOL_LIMIT};
 ghost use Rattle.base_scope.specs.Refusals.{found_below};
 ghost use Rattle.base_scope.specs.Text.{text};
@@ -35,7 +37,7 @@ fn is_section_in(view: View, s: usize, code: u32) -> bool
 
 // The code of section s among the five whose symbols and relocations are taken over, or one past them: `code_of` where the view is A's (proofs/Sections.antt, `code_is`).
 pub fn code_of(view: View, s: usize) -> u32
-    ensures { (result ≡ code_in view s) × (1 ≤ result) × (result ≤ LATE-RODATA + 1) }
+    ensures { (result ≡ code_in view s) × (1 ≤ result) × (result ≤ LATE_RODATA + 1) }
 {
     let mut code = base_scope::TEXT;
     while code <= base_scope::LATE_RODATA {
@@ -287,7 +289,7 @@ fn is_unmoved_value(runs: bool, late: &[u8], blocks: usize, x: u32) -> bool
 
 // Whether section s is .late_rodata. Few are, so its index is asked before the codes.
 fn is_late(view: View, s: usize) -> bool
-    ensures { result ≡ eqb (code_in view s) LATE-RODATA }
+    ensures { result ≡ eqb (code_in view s) LATE_RODATA }
 {
     if view.section(base_scope::LATE_RODATA) != s {
         return false;

@@ -1,5 +1,7 @@
 // What the sections of a merged object hold, appended one by one: the symbol table, what block copying and the late step make of a section, .reginfo, a section as it was, the
 // names of the new sections. Each function says `Written` of its definition: bytes that do not fit are counted and not written.
+#![tactic(auto)]
+
 ghost use Rattle.std.specs.Prelude.{◌≡◌, ◌+◌, ◌*◌, ◌^◌, ◌≤◌, ◌<◌, length};
 ghost use Rattle.base_lists.specs.Windows.{spliced};
 ghost use Rattle.base_lists.specs.Written.{Written};

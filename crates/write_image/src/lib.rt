@@ -1,4 +1,6 @@
 // Where a section of the written object starts: the next multiple of its alignment (specs/Layout.antt). The definitions of the layout and of the whole object stand beside it.
+#![tactic(auto)]
+
 ghost use Rattle.std.specs.Prelude.{◌≡◌, ◌+◌, ◌^◌, ◌<◌};
 ghost use Rattle.write_image.specs.Layout.{aligned_to};
 

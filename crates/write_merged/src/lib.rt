@@ -1,5 +1,7 @@
 // The merged object is written by its plan (crate write_plan, specs/Plan.antt): the file header, the sections that have a place, zeros, and the section headers. Each function
 // equals its definition over that plan (crate write_object, specs/Object.antt and specs/Steps.antt); what is in hand is in specs/Merged.antt.
+#![tactic(auto)]
+
 ghost use Rattle.std.specs.Prelude.{◌≡◌, true, false, ◌+◌, ◌*◌, ◌≤◌, ◌<◌, length, get_or};
 ghost use Rattle.base_lists.specs.Windows.{spliced};
 ghost use Rattle.base_scope.specs.Codes.{LINES};

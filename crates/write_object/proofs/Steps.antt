@@ -7,7 +7,7 @@ use native.Mathlib.Omega.{arith}
 use lib.ListN.{length, take, drop, get_or}
 use lib.Seq.{drop-drop}
 use lib.Dec.{eqb, leb}
-use borrow.Author.Tests.{eq-eqb, ne_eqb, eqb-true, eqb-false, leb-true, not_false}
+use borrow.Author.Tests.{eq-eqb, ne_eqb, eqb-true, eqb-false, leb-true, not-false}
 use Rattle.base_lists.specs.Windows.{spliced}
 use Rattle.base_lists.specs.Records.{flat}
 use Rattle.base_lists.proofs.Records.{length_flat}
@@ -96,7 +96,7 @@ module _ (o : ByteOrder) (type : ℕ) (D : List ℕ) (old new : ℕ) where
     unfolding shift_fails
     moved_header f =
         let g : not (has_header o D) ≡ false = rw (eq-eqb type SHT_MIPS_DEBUG e, ne_eqb old new n) at f in
-        has_long o D (not_false (has_header o D) g)
+        has_long o D (not-false (has_header o D) g)
 
   pub moved_bytes_long : shift_fails o D type old new ≡ false → length (moved_bytes o type D old new) ≡ length D
   moved_bytes_long f = by-test (eqb type SHT_MIPS_DEBUG)

@@ -1,6 +1,8 @@
 // The object that a merge writes, as steps that a writer of any plan takes: zeros between sections, the file header, a section header, a section's bytes, and the move of a debug
 // section. Each equals its definition in specs/Steps.antt; specs/Object.antt is the whole object. `rewrite` is one whole instance: an object is written again from its own sections
 // (specs/Own.antt).
+#![tactic(auto)]
+
 ghost use Rattle.std.specs.Prelude.{◌≡◌, false, ◌+◌, ◌-◌, ◌*◌, ◌≤◌, ◌<◌, length, take, drop};
 ghost use Rattle.base_lists.specs.Windows.{spliced};
 ghost use Rattle.base_buffers.specs.Buffers.{zeros};

@@ -50,7 +50,7 @@ use Rattle.write_plan.specs.Plan.{is_planned_table, table_bytes, own_bytes, adde
 use Rattle.write_plan.proofs.Sections.{null_parts, table_typed, table_not, planned_kept, planned_new, table_holds, other_holds}
 use Rattle.write_plan.proofs.Headers.{many_is, heading_kept, heading_new}
 use Rattle.write_plan.proofs.Relocations.{carried_table_lem}
-use Rattle.write_plan.proofs.Lengths.{STRING-LIMIT_lem, sum_over, shared_sum, strings_limit, new_names_limit, carried_limit, symbols_limit, locals_limit}
+use Rattle.write_plan.proofs.Lengths.{STRING_LIMIT, sum_over, shared_sum, strings_limit, new_names_limit, carried_limit, symbols_limit, locals_limit}
 
 -- ---- over any layout
 
@@ -130,7 +130,7 @@ type_fits t (inr e) = omega (arith, e)
 
 -- what the strings can be: no section of C holds more in the result
 abbrev pub WIDEST : ℕ
-WIDEST = FILE_LIMIT + FILE_LIMIT + STRING-LIMIT_lem * STATIC_LIMIT
+WIDEST = FILE_LIMIT + FILE_LIMIT + STRING_LIMIT * STATIC_LIMIT
 
 module _ (o : ByteOrder) (C A : List ℕ) (P : List Place) (B path : List ℕ) (flag mode : ℕ) where
   abbrev p : Plan

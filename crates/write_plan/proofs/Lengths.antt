@@ -34,7 +34,7 @@ use Rattle.statics_walk.specs.Walk.{statics}
 use Rattle.statics_walk.specs.Sound.{StaticsSound}
 use Rattle.statics_walk.proofs.Sound.{statics_sound}
 use Rattle.symbols_merge.specs.Listed.{listed}
-use Rattle.symbols_merge.specs.Merged.{LOCAL-GROUPS_lem, is_merged, group_at_position, merged_count, local_count}
+use Rattle.symbols_merge.specs.Merged.{LOCAL_GROUPS, is_merged, group_at_position, merged_count, local_count}
 use Rattle.symbols_numbers.proofs.Counts.{grouped_few}
 use Rattle.symbols_numbers.proofs.Result.{listed_few, merged_few}
 use Rattle.symbols_ids.specs.Ids.{first_a, first_static, candidates, merge_candidates}
@@ -102,15 +102,15 @@ tail_short n = by-test (eqb n 0)
     (λ f. rw f (omega (arith, decimal_short n)))
 
 -- the longest string of a static: path and colon, stored name, colon and ten digits, zero byte
-abbrev pub STRING-LIMIT_lem : ℕ
-STRING-LIMIT_lem = PATH_LIMIT + 1 + STATIC_NAME_LIMIT + 11 + 1
+abbrev pub STRING_LIMIT : ℕ
+STRING_LIMIT = PATH_LIMIT + 1 + STATIC_NAME_LIMIT + 11 + 1
 
 module _ (mode : ℕ) (path C : List ℕ) (short : length path ≤ PATH_LIMIT) where
   readable_short : (start : ℕ) → readable_name C start ≡ true → length (name_at C start) ≤ STATIC_NAME_LIMIT
   unfolding readable_name
   readable_short start t = leb-true (length (name_at C start)) STATIC_NAME_LIMIT (and_parts (has_end C start) _ t).1
 
-  string_limit : (s : Static) → readable_name C s.start ≡ true → length (static_string mode path C s) ≤ STRING-LIMIT_lem
+  string_limit : (s : Static) → readable_name C s.start ≡ true → length (static_string mode path C s) ≤ STRING_LIMIT
   string_limit s t =
       let a = ap length (sym (written_parts mode path C s)) ∙ length-append (name_head mode path) (working_name C s) in
       let b = ap length (sym (working_parts C s)) ∙ length-append (name_at C s.start) (count_tail s.number) in
@@ -119,12 +119,12 @@ module _ (mode : ℕ) (path C : List ℕ) (short : length path ≤ PATH_LIMIT) w
 
   -- C's strings, A's and those of the statics
   pub strings_limit : (o : ByteOrder) (A : List ℕ) (S : List Static) (head : ℕ) → StaticsSound o C head S
-      → length (result_strings o C A mode path S) ≤ length C + length A + STRING-LIMIT_lem * STATIC_LIMIT
+      → length (result_strings o C A mode path S) ≤ length C + length A + STRING_LIMIT * STATIC_LIMIT
   unfolding result_strings symbol_strings strings_below
   strings_limit o A S head w =
       let f : ℕ → List ℕ = λ k. static_string mode path C (nth S k) in
       let n = gather_sum f (length S) in
-      let b = sum_bound (λ k. length (f k)) STRING-LIMIT_lem (length S) (λ k l. string_limit (nth S k) (w.each k l).name) in
+      let b = sum_bound (λ k. length (f k)) STRING_LIMIT (length S) (λ k l. string_limit (nth S k) (w.each k l).name) in
       let e = length-append (contents o C (strtab o C)) (contents o A (strtab o A) ++ gather (λ k. true) f (length S)) in
       let g = length-append (contents o A (strtab o A)) (gather (λ k. true) f (length S)) in
       omega (arith, n, b, e, g, w.few, contents_short o C (strtab o C), contents_short o A (strtab o A))
@@ -203,7 +203,7 @@ locals_limit o C A P B mode head c a =
     let s = candidates o C A P B mode S in
     omega (
       arith,
-      grouped_few (is_merged s) (group_at_position s) (length (listed s)) LOCAL-GROUPS_lem,
+      grouped_few (is_merged s) (group_at_position s) (length (listed s)) LOCAL_GROUPS,
       listed_few s,
       many_parts o C A P B mode S,
       c.tabled.few,

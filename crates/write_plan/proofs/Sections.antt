@@ -11,7 +11,7 @@ use borrow.Author.Tests.{ltb-true, lt-ltb, le-ltb, eqb-true, eq-eqb, ne_eqb}
 use Rattle.base_lists.proofs.Ranges.{by-test, by-lt, and_parts, first_is, first_low_lem}
 use Rattle.base_fields.specs.declared.ByteOrder.{ByteOrder}
 use Rattle.base_scope.specs.Elf.{SHT_NULL, SHT_PROGBITS, SHT_SYMTAB, SHT_STRTAB, SHT_RELA, SHT_NOBITS, SHT_REL, SHT_MIPS_DEBUG}
-use Rattle.base_scope.specs.Codes.{TEXT, BSS, LATE-RODATA_lem, REGINFO, CODES, section_codes, code_type}
+use Rattle.base_scope.specs.Codes.{TEXT, BSS, LATE_RODATA, REGINFO, CODES, section_codes, code_type}
 use Rattle.elf_readers.specs.Readers.{header, section_count, section, contents, coded_section, has_code, is_strtab, section_strings}
 use Rattle.elf_readers.proofs.Readers.{contents_none, code_there}
 use Rattle.elf_sections.specs.Headers.{null_section_sound}
@@ -92,8 +92,8 @@ module _ (o : ByteOrder) (C : List ℕ) (i : ℕ) where
         (λ t.
         let c : ℕ = code_of o C i in
         let h : c < BSS = ltb-true c BSS t in
-        let l : 1 ≤ c = first_low_lem (is_section_of o C i) TEXT (LATE-RODATA_lem + 1) in
-        let is : is_section_of o C i c ≡ true = (first_is (is_section_of o C i) TEXT (LATE-RODATA_lem + 1) (omega arith)).here (omega (arith, h)) in
+        let l : 1 ≤ c = first_low_lem (is_section_of o C i) TEXT (LATE_RODATA + 1) in
+        let is : is_section_of o C i c ≡ true = (first_is (is_section_of o C i) TEXT (LATE_RODATA + 1) (omega arith)).here (omega (arith, h)) in
         absurd (n (coded_type sound c l (omega (arith, h)) is ∙ front_type c l h)))
         (λ f. f)
 

@@ -20,7 +20,7 @@ use Rattle.base_buffers.proofs.Parts.{part_long}
 use Rattle.merge_kept.specs.Kept.{kept}
 use Rattle.symbols_merge.specs.Candidates.{Candidates}
 use Rattle.symbols_merge.specs.Listed.{listed}
-use Rattle.symbols_merge.specs.Merged.{LOCAL-GROUPS_lem, is_merged, group_at_position, local_count}
+use Rattle.symbols_merge.specs.Merged.{LOCAL_GROUPS, is_merged, group_at_position, local_count}
 use Rattle.symbols_ids.specs.Ids.{merge_candidates}
 use Rattle.symbols_numbers.proofs.Counts.{grouped_few}
 use Rattle.symbols_numbers.proofs.Result.{listed_few}
@@ -32,7 +32,7 @@ use Rattle.write_planned.proofs.Planned.{strings_at}
 
 local_few : (s : Candidates) → local_count s ≤ s.many + 1
 unfolding local_count
-local_few s = omega (arith, grouped_few (is_merged s) (group_at_position s) (length (listed s)) LOCAL-GROUPS_lem, listed_few s)
+local_few s = omega (arith, grouped_few (is_merged s) (group_at_position s) (length (listed s)) LOCAL_GROUPS, listed_few s)
 
 module _ (C A B path : List ℕ) (x : Writing) (table places steps index : List ℕ) (h : PlanHeld C A B path x table places steps index) where
   abbrev o : ByteOrder

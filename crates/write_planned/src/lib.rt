@@ -1,6 +1,8 @@
 // What each section of a merged object holds, appended, and how long it is; the headers of C's sections that stay, and where the names of new sections stand (crate write_plan,
 // specs/Plan.antt), by what is in hand behind the symbol merge and carrying (specs/Held.antt). Each appending function says `Written` of its definition: bytes that do not fit
 // are counted and not written. What is read of the index stays as it is (`SpansOver`; proofs/Held.antt, `held_still`).
+#![tactic(auto)]
+
 ghost use Rattle.std.specs.Prelude.{◌≡◌, true, not, ◌||◌, ◌++◌, ◌+◌, ◌*◌, ◌^◌, ◌≤◌, ◌<◌, length, ltb};
 ghost use Rattle.base_lists.specs.Written.{Written};
 ghost use Rattle.base_scope.specs.Limits.{FILE_LIMIT};
@@ -31,7 +33,7 @@ use symbols_stage::{Counts, Manner};
 const HOME_TABLE: usize = 1024;
 
 // What is in hand besides the objects, the block file, the path and the buffers: `flag` says whether trailing sections are dropped.
-#[derive(Drop)]
+#[derive(Clone, Copy)]
 pub struct Writing {
     pub stage: Stage,
     pub manner: Manner,
@@ -148,7 +150,7 @@ fn append_table(
 }
 
 // What becomes of a section of C that is no relocation table: its bytes stay; it is the symbol table; its strings; .reginfo; or blocks are copied into it.
-#[derive(Drop)]
+#[derive(Clone, Copy)]
 pub enum OwnKind {
     Same,
     Symbols,

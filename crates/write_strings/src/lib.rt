@@ -1,5 +1,7 @@
 // The strings of the result's symbols, appended from C, A, the path and the table of statics; no name stands in a buffer of its own. Each function says `Written` of a definition
 // in specs/Strings.antt: strings that do not fit are counted and not written.
+#![tactic(auto)]
+
 ghost use Rattle.std.specs.Prelude.{◌+◌, ◌*◌, ◌^◌, ◌≤◌, ◌<◌, length};
 ghost use Rattle.base_lists.specs.Written.{Written};
 ghost use Rattle.base_scope.specs.Limits.{FILE_LIMIT, PATH_LIMIT, STATIC_LIMIT, STATIC_ROW};

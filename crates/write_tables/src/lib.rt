@@ -1,5 +1,7 @@
 // The entries of A's relocation tables that join a section of the result, appended. Each function says `Written` of its definition: entries that do not fit are counted and not
 // written.
+#![tactic(auto)]
+
 ghost use Rattle.std.specs.Prelude.{◌+◌, ◌*◌, ◌^◌, ◌≤◌, ◌<◌, length};
 ghost use Rattle.base_lists.specs.Written.{Written};
 ghost use Rattle.carry_entries.specs.Entries.{carried_bytes};

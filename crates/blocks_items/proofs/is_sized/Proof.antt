@@ -1,6 +1,6 @@
 -- `blocks_items::is_sized` meets its contract: the line `text=` of the block is taken, and a line `glabel=` stands at the start of its group. Assumes nothing.
 use Rattle.base_scope.specs.Codes.{TEXT, line_of}
-use Rattle.blocks_lines.specs.Keys.{KEY-GLABEL_lem}
+use Rattle.blocks_lines.specs.Keys.{KEY_GLABEL}
 use Rattle.blocks_file.proofs.Blocks.{count_high}
 use Rattle.blocks_file.proofs.Table.{parsed_inside, group_in_lem}
 use Rattle.blocks_places.specs.Lines.{line_count}
@@ -41,7 +41,7 @@ returns c =
     let t = c.before.before.before.is_taken_lem in
     let g = c.before.group-start in
     let e = taken_row_lem a.places.now (line_count a.file.now) (line_of a.i TEXT) (omega arith) ∙ ap (λ (k : ℕ). (place_in a.places.now k).taken) (sym j.ensures.0) ∙ sym t.ensures ∙ c.before.before.if1.true in
-    sized_taken (places_in a.places.now (line_count a.file.now)) a.file.now a.i g.result c.is-key-line.result e (g.ensures.0 ∙ group_in_lem a.file.now a.table.now b.requires.0 a.i KEY-GLABEL_lem b.requires.2 (omega arith)) c.is-key-line.ensures
+    sized_taken (places_in a.places.now (line_count a.file.now)) a.file.now a.i g.result c.is-key-line.result e (g.ensures.0 ∙ group_in_lem a.file.now a.table.now b.requires.0 a.i KEY_GLABEL b.requires.2 (omega arith)) c.is-key-line.ensures
 
 returns-2 : tie.Need-returns-2
 returns-2 c =

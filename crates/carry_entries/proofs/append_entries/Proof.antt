@@ -4,7 +4,7 @@ use mathlib.Core.Path.{◌≡◌, sym, ◌∙◌}
 use mathlib.Core.Logic.{⊎_elim}
 use native.Mathlib.Omega.{arith}
 use borrow.Author.Rules.{rules}
-use borrow.Author.Tests.{not_false}
+use borrow.Author.Tests.{not-false}
 use Rattle.base_lists.specs.Written.{Written}
 use Rattle.base_lists.proofs.Written.{written_short, written_as}
 use Rattle.elf_relocations.specs.Relocations.{relocation_count}
@@ -146,7 +146,7 @@ loop-again c =
     let stands : StandsAt (goal_in (moves_of a.side) a.rows.now a.late.now c.before.before.before.before.before.before.before.before.before.before.before.before.before.before.before.before.before.table_at.result.code entry.result.r_offset) c.before.before.before.before.if3.place = ⊎_elim
     (λ p. rw p.2 p.1.ensures)
     (λ p.
-    let goal = stays_in a.side _ a.rows.now a.late.now _ gap _ _ c.before.before.before.before.before.is-in-gap.ensures (not_false _ p.0.left) in
+    let goal = stays_in a.side _ a.rows.now a.late.now _ gap _ _ c.before.before.before.before.before.is-in-gap.ensures (not-false _ p.0.left) in
     rw p.1 (stands_same _ _ goal (omega (arith, c.before.before.before.before.before.before.before.before.struct-known2.given))))
     c.before.before.before.before.if3.branch in
     let e = brought_same a.file.now a.side a.rows.now a.late.now a.numbers.now _ is l.k _ entry.ensures a.t

@@ -1,5 +1,5 @@
 -- `merge_labels::is_late_lined` meets its contract. Assumes nothing.
-use Rattle.base_scope.specs.Codes.{LATE-RODATA_lem}
+use Rattle.base_scope.specs.Codes.{LATE_RODATA}
 use Rattle.base_scope.specs.Text.{text}
 use Rattle.elf_check.proofs.Views.{view_section, view_table}
 use Rattle.merge_labels.specs.Labels.{late_label, late_lined}
@@ -44,19 +44,19 @@ returns c =
     let b = c.before.before.before.before.before.before.before.before.before.before.before.before.before in
     let a = b.args in
     c.both.ensures ∙ ap (λ (x : Bool). x && leb (a.start.value + a.size) (length c.before.before.before.before.coded-contents.result.now)) c.before.is-label-at.ensures
-    ∙ late_read a.order a.assembled.now a.size _ a.start b.requires.1 (c.before.before.before.before.before.before.before.before.before.before.section.ensures ∙ view_section a.order a.assembled.now a.view b.requires.0.is LATE-RODATA_lem (omega arith) (omega arith)) _ c.before.before.before.before.coded-contents.ensures c.before.before.before.before.before.before.before.before.if1.true c.before.before.before.before.before.before.if2.true
+    ∙ late_read a.order a.assembled.now a.size _ a.start b.requires.1 (c.before.before.before.before.before.before.before.before.before.before.section.ensures ∙ view_section a.order a.assembled.now a.view b.requires.0.is LATE_RODATA (omega arith) (omega arith)) _ c.before.before.before.before.coded-contents.ensures c.before.before.before.before.before.before.before.before.if1.true c.before.before.before.before.before.before.if2.true
 
 returns-2 : tie.Need-returns-2
 returns-2 c =
     let b = c.before.before.before.before.before.before.before in
     let a = b.args in
-    late_elsewhere a.order a.assembled.now a.size _ a.start b.requires.1 (c.before.before.before.before.section.ensures ∙ view_section a.order a.assembled.now a.view b.requires.0.is LATE-RODATA_lem (omega arith) (omega arith)) c.if2.false
+    late_elsewhere a.order a.assembled.now a.size _ a.start b.requires.1 (c.before.before.before.before.section.ensures ∙ view_section a.order a.assembled.now a.view b.requires.0.is LATE_RODATA (omega arith) (omega arith)) c.if2.false
 
 returns-3 : tie.Need-returns-3
 returns-3 c =
     let b = c.before.before.before.before.before in
     let a = b.args in
-    late_absent a.order a.assembled.now a.size _ a.start b.requires.1 (c.before.before.section.ensures ∙ view_section a.order a.assembled.now a.view b.requires.0.is LATE-RODATA_lem (omega arith) (omega arith)) c.if1.false
+    late_absent a.order a.assembled.now a.size _ a.start b.requires.1 (c.before.before.section.ensures ∙ view_section a.order a.assembled.now a.view b.requires.0.is LATE_RODATA (omega arith) (omega arith)) c.if1.false
 
 pub is-late-lined-spec : {M : Type 1} → statement M
 is-late-lined-spec =

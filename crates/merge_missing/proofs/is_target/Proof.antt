@@ -1,7 +1,7 @@
 -- `merge_missing::is_target` meets its contract: before each turn the search goes on as from the first code. Assumes nothing.
 use Rattle.base_lists.specs.Ranges.{first}
 use Rattle.base_lists.proofs.Ranges.{first_next}
-use Rattle.base_scope.specs.Codes.{TEXT, LATE-RODATA_lem}
+use Rattle.base_scope.specs.Codes.{TEXT, LATE_RODATA}
 use Rattle.merge_missing.specs.Missing.{goes_to}
 use Rattle.merge_missing.proofs.Ends.{target_here, target_none}
 use Prim.Native.Nat.{◌+◌, ◌-◌, ◌≤◌}
@@ -13,10 +13,10 @@ use Rattle.merge_missing.proofs.is_target.Tie as tie
 
 abbrev invariant-loop : tie.invariant-loop
 invariant-loop order assembled view target code₀ code =
-    (TEXT ≤ code) × (code ≤ LATE-RODATA_lem + 1) × (first (goes_to order assembled target) TEXT (LATE-RODATA_lem + 1) ≡ first (goes_to order assembled target) code (LATE-RODATA_lem + 1))
+    (TEXT ≤ code) × (code ≤ LATE_RODATA + 1) × (first (goes_to order assembled target) TEXT (LATE_RODATA + 1) ≡ first (goes_to order assembled target) code (LATE_RODATA + 1))
 
 abbrev decreases-loop : tie.decreases-loop
-decreases-loop order assembled view target code₀ code = LATE-RODATA_lem + 1 - code
+decreases-loop order assembled view target code₀ code = LATE_RODATA + 1 - code
 
 loop-holds : tie.Need-loop-init invariant-loop decreases-loop
 loop-holds c = (omega arith, omega arith, refl)
@@ -40,7 +40,7 @@ loop-again : tie.Need-loop-preserved invariant-loop decreases-loop
 loop-again c =
     let a = c.before.before.before.before.before.args in
     let l = c.before.before.before.loop in
-    (omega (arith, l.invariant.0), omega (arith, c.before.before.loop-test.true), l.invariant.2 ∙ first_next (goes_to a.order a.assembled.now a.target) l.code (LATE-RODATA_lem + 1) (omega (arith, c.before.before.loop-test.true)) (sym c.before.Goes-to.ensures ∙ c.if1.false))
+    (omega (arith, l.invariant.0), omega (arith, c.before.before.loop-test.true), l.invariant.2 ∙ first_next (goes_to a.order a.assembled.now a.target) l.code (LATE_RODATA + 1) (omega (arith, c.before.before.loop-test.true)) (sym c.before.Goes-to.ensures ∙ c.if1.false))
 
 returns-2 : tie.Need-returns-2 invariant-loop decreases-loop
 returns-2 c =

@@ -1,5 +1,5 @@
 -- A block that stays on marks the names of its group `glabel=`; another has no glabels. Assumes nothing.
-use Rattle.blocks_lines.specs.Keys.{KEY-GLABEL_lem}
+use Rattle.blocks_lines.specs.Keys.{KEY_GLABEL}
 use Rattle.blocks_file.proofs.Blocks.{counted_group}
 use Rattle.blocks_file.proofs.Table.{parsed_inside, group_in_lem}
 use Rattle.blocks_places.specs.Lines.{line_count}
@@ -29,8 +29,8 @@ mark-group-requires : tie.Need-mark-group-requires
 mark-group-requires c κs =
     let b = c.before.before.before.before.before.before.before.before.before.before in
     let a = b.args in
-    let g = group_in_lem a.file.now a.table.now b.requires.0.laid.parsed a.i KEY-GLABEL_lem b.requires.1 (omega arith) in
-    (b.requires.0.symbols, b.requires.0.indexed, omega (arith, c.before.group-start.ensures.0, g, counted_group a.file.now a.i KEY-GLABEL_lem b.requires.1 (omega arith)), b.requires.2)
+    let g = group_in_lem a.file.now a.table.now b.requires.0.laid.parsed a.i KEY_GLABEL b.requires.1 (omega arith) in
+    (b.requires.0.symbols, b.requires.0.indexed, omega (arith, c.before.group-start.ensures.0, g, counted_group a.file.now a.i KEY_GLABEL b.requires.1 (omega arith)), b.requires.2)
 
 same_length : tie.Need-same-length
 same_length c = search rules
@@ -40,7 +40,7 @@ returns c =
     let b = c.before.before.before.before.before.before.before.before.before.before.before.before.before in
     let a = b.args in
     let s = c.before.before.before.before.group-start in
-    let g = group_in_lem a.file.now a.table.now b.requires.0.laid.parsed a.i KEY-GLABEL_lem b.requires.1 (omega arith) in
+    let g = group_in_lem a.file.now a.table.now b.requires.0.laid.parsed a.i KEY_GLABEL b.requires.1 (omega arith) in
     let t = sym c.before.before.before.before.before.before.is_live.ensures ∙ c.before.before.before.before.before.if1.true in
     block_live (places_in a.places.now (line_count a.file.now)) a.file.now a.i a.order a.assembled.now a.marks.now _ s.result t (s.ensures.0 ∙ g) c.before.before.mark-group.ensures
 

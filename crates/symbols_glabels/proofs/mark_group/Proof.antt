@@ -1,5 +1,5 @@
 -- The names of the lines passed are marked, and these lines and the group from the line reached are the group. Assumes nothing.
-use Rattle.blocks_lines.specs.Keys.{KEY-GLABEL_lem, is_key_line}
+use Rattle.blocks_lines.specs.Keys.{KEY_GLABEL, is_key_line}
 use Rattle.symbols_glabels.specs.Words.{is_among}
 use Rattle.symbols_glabels.proofs.Groups.{key_line_turn, Turned, turned_none, turned_next, turned_end}
 use Rattle.symbols_glabels.proofs.Marks.{uniform_marked}
@@ -44,22 +44,22 @@ add_at : tie.Need-overflow-add-at invariant-loop decreases-loop
 add_at c =
     let a = c.before.before.before.before.before.before.before.before.before.before.before.before.args in
     let l = c.before.before.before.before.before.before.before.loop in
-    let t : is_key_line a.file.now KEY-GLABEL_lem l.at ≡ true = sym c.before.before.before.before.before.before.is-key-line.ensures ∙ c.before.before.before.before.before.if1.true in
-    omega (arith, c.line_end_lem.ensures, key_line_turn a.file.now KEY-GLABEL_lem l.at t)
+    let t : is_key_line a.file.now KEY_GLABEL l.at ≡ true = sym c.before.before.before.before.before.before.is-key-line.ensures ∙ c.before.before.before.before.before.if1.true in
+    omega (arith, c.line_end_lem.ensures, key_line_turn a.file.now KEY_GLABEL l.at t)
 
 loop-less : tie.Need-loop-smaller invariant-loop decreases-loop
 loop-less c =
     let a = c.before.before.before.before.before.before.before.before.before.before.before.before.args in
     let l = c.before.before.before.before.before.before.before.loop in
-    let t : is_key_line a.file.now KEY-GLABEL_lem l.at ≡ true = sym c.before.before.before.before.before.before.is-key-line.ensures ∙ c.before.before.before.before.before.if1.true in
-    omega (arith, c.line_end_lem.ensures, key_line_turn a.file.now KEY-GLABEL_lem l.at t)
+    let t : is_key_line a.file.now KEY_GLABEL l.at ≡ true = sym c.before.before.before.before.before.before.is-key-line.ensures ∙ c.before.before.before.before.before.if1.true in
+    omega (arith, c.line_end_lem.ensures, key_line_turn a.file.now KEY_GLABEL l.at t)
 
 loop-again : tie.Need-loop-preserved invariant-loop decreases-loop
 loop-again c =
     let a = c.before.before.before.before.before.before.before.before.before.before.before.before.args in
     let l = c.before.before.before.before.before.before.before.loop in
-    let t : is_key_line a.file.now KEY-GLABEL_lem l.at ≡ true = sym c.before.before.before.before.before.before.is-key-line.ensures ∙ c.before.before.before.before.before.if1.true in (
-      omega (arith, c.line_end_lem.ensures, key_line_turn a.file.now KEY-GLABEL_lem l.at t),
+    let t : is_key_line a.file.now KEY_GLABEL l.at ≡ true = sym c.before.before.before.before.before.before.is-key-line.ensures ∙ c.before.before.before.before.before.if1.true in (
+      omega (arith, c.line_end_lem.ensures, key_line_turn a.file.now KEY_GLABEL l.at t),
       l.invariant.1 + 1,
       turned_next a.order a.assembled.now a.file.now a.from a.marks.now l.marks _ l.at (c.line_end_lem.result + 1) l.invariant.1 t
           (ap (λ (e : ℕ). e + 1) c.line_end_lem.ensures) l.invariant.2 c.before.before.before.mark-line.ensures,

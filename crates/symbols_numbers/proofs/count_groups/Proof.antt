@@ -1,14 +1,14 @@
 -- After p turns the holders below p are counted in their groups. Assumes nothing.
 use Prim.Native.Nat.{◌-◌}
 use native.Mathlib.Omega.{arith}
-use Rattle.symbols_merge.specs.Merged.{RESULT-GROUPS_lem}
+use Rattle.symbols_merge.specs.Merged.{RESULT_GROUPS}
 use Rattle.symbols_numbers.proofs.Counts.{Counting, counts_none, counts_small, counts_end, counting_next}
 use borrow.Author.Rules.{rules}
 use Rattle.symbols_numbers.proofs.count_groups.Statement.{statement}
 use Rattle.symbols_numbers.proofs.count_groups.Tie as tie
 
 abbrev invariant-loop : tie.invariant-loop
-invariant-loop rows list holders m counts₀ p₀ counts p = Counting rows list holders m (λ g. 0) RESULT-GROUPS_lem p counts
+invariant-loop rows list holders m counts₀ p₀ counts p = Counting rows list holders m (λ g. 0) RESULT_GROUPS p counts
 
 abbrev decreases-loop : tie.decreases-loop
 decreases-loop rows list holders m counts₀ p₀ counts p = m - p

@@ -1,7 +1,7 @@
 -- Each start is the one before it and the count of its group. Assumes nothing.
 use Prim.Native.Nat.{ℕ, ◌<◌}
 use native.Mathlib.Omega.{arith}
-use Rattle.symbols_merge.specs.Merged.{RESULT-GROUPS_lem}
+use Rattle.symbols_merge.specs.Merged.{RESULT_GROUPS}
 use Rattle.symbols_numbers.proofs.Counts.{CountAt, counts_at, starts_are}
 use borrow.Author.Rules.{rules}
 use Rattle.symbols_numbers.proofs.group_starts.Statement.{statement}
@@ -10,7 +10,7 @@ use Rattle.symbols_numbers.proofs.group_starts.Tie as tie
 abbrev Counted : tie.After-count-groups → ℕ → Type 0
 Counted c g = let a = c.before.before.before.before.args in CountAt a.rows.now a.list.now a.holders.now a.m c.count-groups.result g
 
-counted : (c : tie.After-count-groups) (g : ℕ) → g < RESULT-GROUPS_lem → Counted c g
+counted : (c : tie.After-count-groups) (g : ℕ) → g < RESULT_GROUPS → Counted c g
 counted c g h = counts_at _ _ _ _ _ g c.count-groups.ensures h
 
 count-groups-requires : tie.Need-count-groups-requires

@@ -1,0 +1,18 @@
+-- `base_fields::store4` meets its contract: four stores side by side are one write of four bytes.
+-- Assumes nothing.
+use native.Mathlib.Omega.{arith}
+use lib.ListN.{length-set}
+use Rattle.base_fields.proofs.Stores.{stored_4}
+use Rattle.base_fields.proofs.store4.Goals as goal
+
+pub bounds-s-at-2 : goal.bounds-s-at-2
+bounds-s-at-2 c = simp length-set (omega arith)
+
+pub bounds-s-at-3 : goal.bounds-s-at-3
+bounds-s-at-3 c = simp length-set (omega arith)
+
+pub bounds-s-at-4 : goal.bounds-s-at-4
+bounds-s-at-4 c = simp length-set (omega arith)
+
+pub returns : goal.returns
+returns c = stored_4 c.args.s.now c.args.at c.args.a c.args.b c.args.c c.args.d c.requires

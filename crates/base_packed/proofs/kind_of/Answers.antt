@@ -1,0 +1,6 @@
+-- The mask keeps the low eight bits, which is the remainder.
+use lib.Bits.{and_mask}
+use Rattle.base_packed.proofs.kind_of.Goals as goal
+
+pub returns : goal.returns
+returns c = and_mask c.args.info 8
