@@ -18,9 +18,10 @@ marked c = (c.byte_marks-marks.ensures ∙ ap (byte_marks 0 8) c.word_at-word.en
 
 -- where the word's first zero byte is
 zero_in : (c : After-first_mark-n)
+    → (c.byte_marks-marks.result ≡ byte_marks 0 8 (word_at c.args.t.now (c.args.at + c.loop-i.i) 8)) × (c.args.at + c.loop-i.i + 8 ≤ length c.args.t.now)
     → (first_byte c.args.t.now 0 (c.args.at + c.loop-i.i) ≡ c.args.at + c.loop-i.i + c.first_mark-n.result) × (c.first_mark-n.result < 8)
-zero_in c =
-    found c.args.t.now 0 (λ i. omega (arith, c.type_inv.t i)) (omega arith) (c.args.at + c.loop-i.i) c.byte_marks-marks.result (marked (goal.at.None c).After-byte_marks-marks).1 (marked (goal.at.None c).After-byte_marks-marks).0 c.if-marks-ne0.true c.first_mark-n.result c.first_mark-n.ensures
+zero_in c m =
+    found c.args.t.now 0 (λ i. omega (arith, c.type_inv.t i)) (omega arith) (c.args.at + c.loop-i.i) c.byte_marks-marks.result m.1 m.0 c.if-marks-ne0.true c.first_mark-n.result c.first_mark-n.ensures
 
 pub returns-then-at-t : goal.returns-then-at-t
 returns-then-at-t c = c.late_hash.ensures
@@ -39,10 +40,10 @@ pub word_at-word-requires : goal.word_at-word-requires
 word_at-word-requires c = omega (arith, c.shorter-room.ensures, c.loop-i.invariant.0)
 
 pub low_part-requires : goal.low_part-requires
-low_part-requires c = (zero_in (goal.at.low_part-requires c).After-first_mark-n).1
+low_part-requires c = (zero_in (goal.at.low_part-requires c).After-first_mark-n (marked (goal.at.low_part-requires c).After-byte_marks-marks)).1
 
 pub overflow_add-i : goal.overflow_add-i
-overflow_add-i c = record { fits = omega (arith, (zero_in (goal.at.overflow_add-i c).After-first_mark-n).1, c.loop-i.invariant.0, c.shorter-room.ensures) }
+overflow_add-i c = record { fits = omega (arith, (zero_in (goal.at.overflow_add-i c).After-first_mark-n (marked (goal.at.overflow_add-i c).After-byte_marks-marks)).1, c.loop-i.invariant.0, c.shorter-room.ensures) }
 
 pub returns-then-marks-ne0 : goal.returns-then-marks-ne0
 returns-then-marks-ne0 c =
@@ -51,7 +52,7 @@ returns-then-marks-ne0 c =
     let l = c.loop-i in
     let v = l.invariant in
     let n = c.first_mark-n.result in
-    let z = zero_in (goal.at.returns-then-marks-ne0 c).After-first_mark-n in
+    let z = zero_in (goal.at.returns-then-marks-ne0 c).After-first_mark-n (marked (goal.at.returns-then-marks-ne0 c).After-byte_marks-marks) in
     let part : c.low_part.result ≡ word_at t (a.at + l.i) n =
     c.low_part.ensures
     ∙ ap (λ (w : ℕ). w % 256 ^ n) (c.word_at-word.ensures ∙ ap (word_at t (a.at + l.i)) (omega (arith, z.1)))

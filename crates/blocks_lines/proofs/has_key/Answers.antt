@@ -70,7 +70,7 @@ returns-in-9 c =
 pub returns-in_default : goal.returns-in_default
 unfolding key_name keys text
 returns-in_default c =
-    let r = c.in_default.rest in
+    let r = c.in_default.in_default-own.rest in
     let k = c.args.k in
     let q = r.0.0.0.0.0 in
     let l = past_four k q.0.0.0.0.1 q.0.0.0.1 q.0.0.1 q.0.1 q.1 in

@@ -7,8 +7,6 @@ use Prim.Native.Nat.{◌-◌}
 use mathlib.Core.Path.{◌≡◌, refl, sym, ap, ◌∙◌}
 use Rattle.elf_readers.proofs.section_named.Goals as goal
 
-)
-
 pub loop-i-init : goal.loop-i-init
 loop-i-init c = (omega arith, refl)
 
@@ -18,6 +16,7 @@ has_name-requires c = (
   c.header_place-at.ensures.0,
   c.section_strings-strings.ensures,
   omega arith,
+)
 
 pub returns-then-has_name : goal.returns-then-has_name
 unfolding section_named
