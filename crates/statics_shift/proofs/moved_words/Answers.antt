@@ -10,7 +10,7 @@ use Rattle.statics_shift.proofs.moved_words.Goals.{Start}
 
 -- what owning the header tells of its array
 long : (c : Start) → length c.args.h.words ≡ 23
-long c = sym (length-map c.args.h.words (λ x. x)) ∙ c.well_formed.0.1.1.1.1.0.1.0.1
+long c = c.well_formed.0.1.1.1.1.0.1.0.1
 
 pub loop-i-init : goal.loop-i-init
 loop-i-init c =
