@@ -1,0 +1,31 @@
+-- `late_blocks::place_block` meets its contract: where the dummies are placed, the jump table is the block's last item; where one is lost, so is the block. Assumes
+-- nothing.
+use Rattle.late_blocks.proofs.Items.{spot_sound, spot_unsound, sound_inside, block_table_lem, block_lost}
+use mathlib.Core.Path.{◌∙◌}
+use native.Mathlib.Omega.{arith}
+use Rattle.late_blocks.proofs.place_block.Goals as goal
+
+pub table_spot-requires : goal.table_spot-requires
+table_spot-requires c =
+    let a = c.args in
+    let q = c.requires in
+    let d = c.place_dummies in
+    let p = c.in-At.end in
+    let t = spot_sound a.order a.file.now a.rodata.now a.i a.last a.count p d.result d.ensures.0 c.in-At.is in
+    omega (arith, t.1, sound_inside a.order a.file.now a.rodata.now a.i a.last a.count q.3 t.0)
+
+pub returns-in-At : goal.returns-in-At
+returns-in-At c =
+    let a = c.args in
+    let q = c.requires in
+    let d = c.place_dummies in
+    let p = c.in-At.end in
+    let t = spot_sound a.order a.file.now a.rodata.now a.i a.last a.count p d.result d.ensures.0 c.in-At.is in
+    (c.table_spot.ensures ∙ block_table_lem a.order a.file.now a.rodata.now a.i a.last a.count a.bytes p q.2 q.6 t.0 t.1, d.ensures.1)
+
+pub returns-in-Lost : goal.returns-in-Lost
+returns-in-Lost c =
+    let a = c.args in
+    let d = c.place_dummies in
+    let h = spot_unsound a.order a.file.now a.rodata.now a.i a.last a.count d.result d.ensures.0 c.in-Lost.is in
+    (block_lost a.order a.file.now a.rodata.now a.i a.last a.count h, d.ensures.1)

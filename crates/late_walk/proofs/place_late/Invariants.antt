@@ -1,0 +1,12 @@
+use Rattle.blocks_places.specs.Lines.{line_count}
+use Rattle.blocks_places.specs.Table.{places_in}
+use Rattle.late_walk.proofs.Walk.{WalkingBlocks}
+use Prim.Native.Nat.{◌-◌}
+use Rattle.late_walk.proofs.place_late.Given as goal
+
+abbrev pub invariant-loop-i : goal.invariant-loop-i
+invariant-loop-i l =
+    WalkingBlocks l.order (places_in l.places (line_count l.file)) l.file l.rodata l.initial.row.source l.initial.late l.i l.row l.late
+
+abbrev pub decreases-loop-i : goal.decreases-loop-i
+decreases-loop-i l = l.blocks - l.i
