@@ -10,5 +10,4 @@ zero_from-requires c = length_inside _ _ _ _ c.draft_answer-r.ensures
 
 pub returns : goal.returns
 returns c =
-    let k = c.draft_answer-r.auto in
-    drafted _ _ _ _ _ _ _ _ _ c.draft_answer-r.ensures c.zero_from.ensures (c.zero.ensures ∙ ap zeros k.1.1.1.1.0) (c.zero-2.ensures ∙ ap zeros k.1.1.1.1.1.0)
+    drafted _ _ _ _ _ _ _ _ _ c.draft_answer-r.ensures c.zero_from.ensures (c.zero.ensures ∙ ap zeros c.draft_answer-r.auto.table) (c.zero-2.ensures ∙ ap zeros c.draft_answer-r.auto.places)

@@ -31,7 +31,7 @@ loop-i-preserved c =
     let q = c.requires in
     let l = c.loop-i in
     let h : l.i < block_count a.file.now = omega (arith, q.0.counted) in
-    let b = c.step_Block in
+    let b = c.step_block in
     walking_next a.order _ a.file.now a.rodata.now a.table.now a.places.now a.blocks a.step q.0 a.late.now q.1 l.i l.row l.late l.invariant _ c.store_row.ensures h _ b.ensures.1 c.in-Next.next
     (step_next a.order _ a.file.now a.rodata.now l.i a.step.start l.row b.result b.ensures.0 l.invariant.is c.in-Next.next c.in-Next.is)
 
@@ -41,7 +41,7 @@ returns-in-Stop c =
     let q = c.requires in
     let l = c.loop-i in
     let h : l.i < block_count a.file.now = omega (arith, q.0.counted) in
-    let b = c.step_Block in
+    let b = c.step_block in
     walking_stop a.order _ a.file.now a.rodata.now a.table.now a.places.now a.blocks a.step q.0 a.late.now q.1 l.i l.row l.late l.invariant _ c.store_row.ensures h _ b.ensures.1
     (step_stop a.order _ a.file.now a.rodata.now l.i a.step.start l.row b.result b.ensures.0 l.invariant.is c.in-Stop.is)
 

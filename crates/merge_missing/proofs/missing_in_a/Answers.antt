@@ -18,17 +18,17 @@ unfolding missing_by
 returns-then-is_lacking c =
     let a = c.args in
     let l = c.loop-code in
-    lowest_here (missing_by a.inputs.order a.assembled.now a.inputs.compiled a.t3 a.late) l.code l.invariant.2 c.loop-code-test.true (ap (λ (x : Bool). lacking_by a.inputs.order a.assembled.now (get_or a.t3 l.code 0) x l.code) (sym c.is_asked_a-asked.ensures) ∙ sym c.is_lacking.ensures ∙ c.if-is_lacking.true)
+    lowest_here (missing_by a.inputs.order a.assembled.now a.inputs.compiled a.ends a.late) l.code l.invariant.2 c.loop-code-test.true (ap (λ (x : Bool). lacking_by a.inputs.order a.assembled.now (get_or a.ends l.code 0) x l.code) (sym c.is_asked_a-asked.ensures) ∙ sym c.is_lacking.ensures ∙ c.if-is_lacking.true)
 
 pub loop-code-preserved : goal.loop-code-preserved
 unfolding missing_by
 loop-code-preserved c =
     let a = c.args in
     let l = c.loop-code in
-    (omega (arith, l.invariant.0), omega (arith, c.loop-code-test.true), l.invariant.2 ∙ first_next (missing_by a.inputs.order a.assembled.now a.inputs.compiled a.t3 a.late) l.code (CODES + 1) (omega (arith, c.loop-code-test.true)) (ap (λ (x : Bool). lacking_by a.inputs.order a.assembled.now (get_or a.t3 l.code 0) x l.code) (sym c.is_asked_a-asked.ensures) ∙ sym c.is_lacking.ensures ∙ c.if-is_lacking.false))
+    (omega (arith, l.invariant.0), omega (arith, c.loop-code-test.true), l.invariant.2 ∙ first_next (missing_by a.inputs.order a.assembled.now a.inputs.compiled a.ends a.late) l.code (CODES + 1) (omega (arith, c.loop-code-test.true)) (ap (λ (x : Bool). lacking_by a.inputs.order a.assembled.now (get_or a.ends l.code 0) x l.code) (sym c.is_asked_a-asked.ensures) ∙ sym c.is_lacking.ensures ∙ c.if-is_lacking.false))
 
 pub returns : goal.returns
 returns c =
     let a = c.args in
     let l = c.loop-code in
-    lowest_none (missing_by a.inputs.order a.assembled.now a.inputs.compiled a.t3 a.late) l.code l.invariant.2 c.loop-code-test.false
+    lowest_none (missing_by a.inputs.order a.assembled.now a.inputs.compiled a.ends a.late) l.code l.invariant.2 c.loop-code-test.false

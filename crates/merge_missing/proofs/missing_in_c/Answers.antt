@@ -19,7 +19,7 @@ is_missing_c-requires c =
     let a = c.args in
     let P = places_in a.places.now (line_count a.file.now) in
     let l = c.loop-code in
-    (c.requires.0, record { low = l.invariant.0; high = c.loop-code-test.true; ends = (ends_code P a.file.now a.t7 l.code c.requires.1 c.loop-code-test.true).1; runs = c.requires.2 })
+    (c.requires.0, record { low = l.invariant.0; high = c.loop-code-test.true; ends = (ends_code P a.file.now a.ends l.code c.requires.1 c.loop-code-test.true).1; runs = c.requires.2 })
 
 pub returns-then-is_missing_c : goal.returns-then-is_missing_c
 returns-then-is_missing_c c =

@@ -1,0 +1,58 @@
+-- A search for the first symbol at fault: none before k is. Assumes nothing.
+use Rattle.base_lists.proofs.Ranges.{first_here, first_next, first_end}
+use Rattle.elf_symbols.proofs.Symbols.{names_up, names_inside, names_are}
+use Rattle.elf_check.proofs.Views.{view_table}
+use Rattle.symbols_taken.specs.Code.{is_unmoved_in}
+use Rattle.symbols_taken.proofs.Symbols.{view_symbols}
+use Rattle.symbols_taken.proofs.Faults.{unmoved_at_lem, unmoved_none}
+use native.Mathlib.Omega.{arith}
+use Prim.Native.Nat.{◌-◌}
+use mathlib.Core.Path.{◌≡◌, refl, sym, ◌∙◌}
+use Rattle.symbols_taken.proofs.unmoved_fault.Goals as goal
+
+pub strings_of-strings-requires : goal.strings_of-strings-requires
+strings_of-strings-requires c =
+    let a = c.args in
+    let t = view_table a.order a.assembled.now a.view c.requires.0.is c.requires.0.tabled in
+    (names_up a.order a.assembled.now a.view.symbols t, names_inside a.order a.assembled.now a.view.symbols t)
+
+pub loop-k-init : goal.loop-k-init
+loop-k-init c = (omega arith, refl)
+
+pub is_unmoved-requires : goal.is_unmoved-requires
+is_unmoved-requires c =
+    let a = c.args in
+    let t = view_table a.order a.assembled.now a.view c.requires.0.is c.requires.0.tabled in
+    let h = c.loop-k-test.true in (
+      record {
+        viewed = c.requires.0;
+        names = names_are a.order a.assembled.now a.view.symbols t _ c.strings_of-strings.ensures;
+        marks = c.requires.1;
+        below = omega (arith, view_symbols a.order a.assembled.now a.view c.requires.0);
+      },
+      c.requires.2,
+    )
+
+pub returns-then-is_unmoved : goal.returns-then-is_unmoved
+returns-then-is_unmoved c =
+    let a = c.args in
+    let l = c.loop-k in
+    let h = c.loop-k-test.true in
+    let n = a.view.symbols.count in
+    unmoved_at_lem a.order a.assembled.now a.runs a.late.now a.blocks n (view_symbols a.order a.assembled.now a.view c.requires.0) l.k h (l.invariant.1 ∙ first_here (is_unmoved_in a.order a.assembled.now a.runs a.late.now a.blocks) l.k n h (sym c.is_unmoved.ensures ∙ c.if-is_unmoved.true))
+
+pub loop-k-preserved : goal.loop-k-preserved
+loop-k-preserved c =
+    let a = c.args in
+    let l = c.loop-k in
+    let h = c.loop-k-test.true in
+    (omega arith, l.invariant.1 ∙ first_next (is_unmoved_in a.order a.assembled.now a.runs a.late.now a.blocks) l.k a.view.symbols.count h (sym c.is_unmoved.ensures ∙ c.if-is_unmoved.false))
+
+pub returns : goal.returns
+returns c =
+    let a = c.args in
+    let l = c.loop-k in
+    let h = c.loop-k-test.false in
+    let n = a.view.symbols.count in
+    let e : l.k ≡ n = omega arith in
+    unmoved_none a.order a.assembled.now a.runs a.late.now a.blocks n (view_symbols a.order a.assembled.now a.view c.requires.0) (l.invariant.1 ∙ first_end (is_unmoved_in a.order a.assembled.now a.runs a.late.now a.blocks) l.k n h ∙ e)
