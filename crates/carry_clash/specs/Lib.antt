@@ -1,1 +1,4 @@
+pub use Rattle.symbols_taken.specs.of_late_lookups
+pub use Rattle.symbols_taken.specs.of_late_walk
+pub use Rattle.symbols_taken.specs as of_symbols_taken
 pub mod Clash

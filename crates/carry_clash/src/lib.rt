@@ -13,6 +13,8 @@ ghost use Rattle.carry_clash.specs.Clash.{is_stale, leads_out, holds_symbol, is_
 use base_fields::ByteOrder;
 use base_scope::Finding;
 use elf_check::View;
+pub use symbols_taken;
+pub use symbols_taken::late_lookups;
 
 // Its number.
 pub const CLASH: u32 = 10;

@@ -23,7 +23,7 @@ use Rattle.elf_readers.specs.Readers.{section_count, section}
 use Rattle.elf_readers.specs.Bounds.{Headed}
 use Rattle.elf_relocations.specs.Relocations.{is_rela, is_table, entry_size, relocation_count, relocation}
 use Rattle.elf_relocations.proofs.Relocations.{table_type, size_cases}
-use Rattle.symbols_taken.specs.Used.{code_of}
+use Rattle.carry_clash.specs.of_symbols_taken.Used.{code_of}
 use Rattle.carry_clash.specs.Clash.{is_carried}
 use Rattle.carry_entries.specs.declared.Goal.{Goal}
 use Rattle.carry_entries.specs.declared.Goal.TheVariants.{To, LeftOut, Unmoved}

@@ -30,12 +30,12 @@ use Rattle.blocks_spans.specs.Spans.{span_end, span_at, covers, replaced_word}
 use Rattle.blocks_spans.specs.Table.{span_in, spans_in, Rows}
 use Rattle.blocks_spans.proofs.Spans.{covers_of, covers_not, covered_none, span_some, ends_up, replaced_none, replaced_over}
 use Rattle.blocks_spans.proofs.Table.{length_in, span_in_lem}
-use Rattle.late_lookups.specs.declared.LatePlace.{LatePlace}
-use Rattle.late_lookups.specs.declared.LatePlace.TheVariants.{Moved, Unmoved as NotMoved}
-use Rattle.late_lookups.specs.Fields.{offset_at, jump_at}
-use Rattle.symbols_taken.specs.Used.{is_source_table}
-use Rattle.symbols_taken.specs.Code.{code_in}
-use Rattle.symbols_taken.proofs.Sections.{code_is, table_kind}
+use Rattle.carry_clash.specs.of_late_lookups.declared.LatePlace.{LatePlace}
+use Rattle.carry_clash.specs.of_late_lookups.declared.LatePlace.TheVariants.{Moved, Unmoved as NotMoved}
+use Rattle.carry_clash.specs.of_late_lookups.Fields.{offset_at, jump_at}
+use Rattle.carry_clash.specs.of_symbols_taken.Used.{is_source_table}
+use Rattle.carry_clash.specs.of_symbols_taken.Code.{code_in}
+use Rattle.carry_clash.proofs.of_symbols_taken.Sections.{code_is, table_kind}
 use Rattle.symbols_rows.specs.Rows.{half_in}
 use Rattle.symbols_numbers.specs.declared.NewSymbol.{NewSymbol}
 use Rattle.symbols_numbers.specs.Numbers.{new_symbol, new_in}

@@ -26,15 +26,15 @@ use Rattle.blocks_spans.specs.Table.{spans_in}
 use Rattle.blocks_spans.specs.Copied.{copied}
 use Rattle.late_length.specs.Late.{has_late_step}
 use Rattle.late_moves.specs.Moved.{is_moved, is_jump_word, moved_place}
-use Rattle.late_lookups.specs.declared.LatePlace.TheVariants.{Moved, Unmoved as NotMoved}
-use Rattle.late_lookups.specs.Fields.{pick_late_place, offset_at, jump_at}
-use Rattle.late_lookups.specs.Lookups.{moved_offset}
-use Rattle.late_lookups.proofs.Lookups.{late_rows, offset_moved, jump_moved}
+use Rattle.carry_clash.specs.of_late_lookups.declared.LatePlace.TheVariants.{Moved, Unmoved as NotMoved}
+use Rattle.carry_clash.specs.of_late_lookups.Fields.{pick_late_place, offset_at, jump_at}
+use Rattle.carry_clash.specs.of_late_lookups.Lookups.{moved_offset}
+use Rattle.carry_clash.proofs.of_late_lookups.Lookups.{late_rows, offset_moved, jump_moved}
 use Rattle.merge_labels.specs.Labels.{late_start}
 use Rattle.symbols_merge.specs.Candidates.{Candidates}
-use Rattle.symbols_taken.specs.Code.{LateIn}
-use Rattle.symbols_ids.specs.Entries.{late_place}
-use Rattle.symbols_ids.specs.Ids.{first_a, first_static, candidates, merge_candidates}
+use Rattle.carry_clash.specs.of_symbols_taken.Code.{LateIn}
+use Rattle.symbols_fill.specs.of_symbols_ids.Entries.{late_place}
+use Rattle.symbols_fill.specs.of_symbols_ids.Ids.{first_a, first_static, candidates, merge_candidates}
 use Rattle.symbols_merge.specs.Merged.{number_of}
 use Rattle.symbols_rows.specs.Rows.{half_in}
 use Rattle.symbols_numbers.specs.Numbers.{new_in}

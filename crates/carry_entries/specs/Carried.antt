@@ -15,8 +15,8 @@ use Rattle.blocks_spans.specs.Copied.{copied}
 use Rattle.late_length.specs.Late.{has_late_step}
 use Rattle.late_moves.specs.Moved.{is_moved, is_jump_word}
 use Rattle.merge_labels.specs.Labels.{late_start}
-use Rattle.symbols_ids.specs.Entries.{late_place}
-use Rattle.symbols_ids.specs.Ids.{first_a, merge_candidates}
+use Rattle.symbols_fill.specs.of_symbols_ids.Entries.{late_place}
+use Rattle.symbols_fill.specs.of_symbols_ids.Ids.{first_a, merge_candidates}
 use Rattle.symbols_numbers.specs.Result.{new_of}
 use Rattle.carry_clash.specs.Clash.{is_carried}
 use Rattle.carry_entries.specs.declared.Goal.{Goal}

@@ -12,11 +12,11 @@ use Rattle.elf_relocations.specs.Relocations.{is_rela, is_table, entry_size, rel
 use Rattle.elf_check.specs.View.{Viewed}
 use Rattle.blocks_spans.specs.Spans.{replaced_word}
 use Rattle.blocks_spans.specs.Table.{spans_in, Rows}
-use Rattle.late_lookups.specs.declared.LatePlace.{LatePlace}
-use Rattle.late_lookups.specs.declared.LatePlace.TheVariants.{Moved, Unmoved as NotMoved}
-use Rattle.late_lookups.specs.Fields.{offset_at, jump_at}
-use Rattle.symbols_taken.specs.Used.{code_of}
-use Rattle.symbols_taken.specs.Code.{LateIn}
+use Rattle.carry_clash.specs.of_late_lookups.declared.LatePlace.{LatePlace}
+use Rattle.carry_clash.specs.of_late_lookups.declared.LatePlace.TheVariants.{Moved, Unmoved as NotMoved}
+use Rattle.carry_clash.specs.of_late_lookups.Fields.{offset_at, jump_at}
+use Rattle.carry_clash.specs.of_symbols_taken.Used.{code_of}
+use Rattle.carry_clash.specs.of_symbols_taken.Code.{LateIn}
 use Rattle.symbols_rows.specs.Rows.{half_in}
 use Rattle.symbols_numbers.specs.declared.NewSymbol.{NewSymbol}
 use Rattle.symbols_numbers.specs.Numbers.{new_in}

@@ -10,7 +10,7 @@ use Rattle.elf_records.specs.declared.relocation.RelocationEntry.{RelocationEntr
 use Rattle.elf_records.specs.Relocation.{relocation_bytes}
 use Rattle.elf_readers.specs.Readers.{section_count, section}
 use Rattle.elf_relocations.specs.Relocations.{relocation_count, relocation}
-use Rattle.symbols_taken.specs.Used.{code_of}
+use Rattle.carry_clash.specs.of_symbols_taken.Used.{code_of}
 use Rattle.symbols_numbers.specs.declared.NewSymbol.{NewSymbol}
 use Rattle.symbols_numbers.specs.declared.NewSymbol.TheVariants.{Merged, Gone}
 use Rattle.carry_entries.specs.declared.Goal.{Goal}

@@ -9,9 +9,9 @@ use Rattle.blocks_spans.specs.Spans.{spans_of}
 use Rattle.blocks_spans.specs.Table.{spans_in}
 use Rattle.blocks_spans.specs.Copied.{copied}
 use Rattle.late_length.specs.Late.{has_late_step}
-use Rattle.late_walk.specs.Table.{Moves}
+use Rattle.carry_clash.specs.of_late_walk.Table.{Moves}
 use Rattle.merge_labels.specs.Labels.{late_start}
-use Rattle.symbols_ids.specs.Ids.{first_a}
+use Rattle.symbols_fill.specs.of_symbols_ids.Ids.{first_a}
 use Rattle.carry_entries.specs.declared.Side.{Side}
 
 -- the rows are the spans of .text, and the table is that of the late step over the copied late target, where it runs

@@ -16,8 +16,8 @@ ghost use Rattle.elf_relocations.specs.Relocations.{is_table, relocation_count, 
 ghost use Rattle.elf_check.specs.View.{Viewed};
 ghost use Rattle.blocks_spans.specs.Spans.{span_end, replaced_word};
 ghost use Rattle.blocks_spans.specs.Table.{span_in, spans_in, Rows, ends_behind};
-ghost use Rattle.late_lookups.specs.Fields.{offset_at, jump_at};
-ghost use Rattle.symbols_taken.specs.Code.{LateIn};
+ghost use Rattle.carry_clash.specs.of_late_lookups.Fields.{offset_at, jump_at};
+ghost use Rattle.carry_clash.specs.of_symbols_taken.Code.{LateIn};
 ghost use Rattle.symbols_numbers.specs.Numbers.{new_in};
 ghost use Rattle.carry_clash.specs.Clash.{is_carried};
 ghost use Rattle.carry_entries.specs.declared.Goal.TheVariants.{Unmoved};
@@ -29,9 +29,10 @@ ghost use Rattle.carry_entries.specs.Code.{entry_table_of, TableRead, IsGap, Sta
 use base_fields::ByteOrder;
 use base_packed::MergedSymbol;
 use base_scope::Finding;
+use carry_clash::late_lookups::LatePlace;
+use carry_clash::{late_lookups, symbols_taken};
 use elf_check::View;
 use elf_records::RelocationEntry;
-use late_lookups::LatePlace;
 use symbols_numbers::NewSymbol;
 
 // Offsets are below.

@@ -17,8 +17,8 @@ use Rattle.base_groups.specs.Holders.{holder, is_holder, Equivalence}
 use Rattle.base_groups.proofs.Holders.{holder_le, holder_alike, holder_holds, holder_once}
 use Rattle.elf_readers.specs.Readers.{section_count, section, section_name, has_name, section_named, coded_section, coded_contents}
 use Rattle.elf_relocations.specs.Relocations.{is_rela, is_table}
-use Rattle.symbols_taken.specs.Used.{is_source_table}
-use Rattle.symbols_taken.proofs.Sections.{table_kind}
+use Rattle.carry_clash.specs.of_symbols_taken.Used.{is_source_table}
+use Rattle.carry_clash.proofs.of_symbols_taken.Sections.{table_kind}
 use Rattle.carry_clash.specs.Clash.{carried_code, is_carried, is_other_table, joined_section, is_misjoined}
 use Rattle.carry_clash.proofs.Joined.{target_lines}
 use Rattle.carry_homes.specs.declared.TableName.{TableName}

@@ -26,9 +26,9 @@ use Rattle.elf_readers.specs.Readers.{section_count, section, coded_contents}
 use Rattle.elf_relocations.specs.Relocations.{is_table}
 use Rattle.elf_check.specs.declared.View.{View}
 use Rattle.elf_check.specs.View.{view_of}
-use Rattle.symbols_taken.specs.Used.{is_section_of, code_of, is_source, is_source_table}
-use Rattle.symbols_taken.specs.Code.{code_in}
-use Rattle.symbols_taken.proofs.Sections.{code_is, table_none}
+use Rattle.carry_clash.specs.of_symbols_taken.Used.{is_section_of, code_of, is_source, is_source_table}
+use Rattle.carry_clash.specs.of_symbols_taken.Code.{code_in}
+use Rattle.carry_clash.proofs.of_symbols_taken.Sections.{code_is, table_none}
 use Rattle.symbols_numbers.proofs.Counts.{grouped_few}
 use Rattle.carry_clash.specs.Clash.{carried_code, is_carried}
 use Rattle.carry_homes.specs.Homes.{carried_rank, CARRIED_RANKS, carried_tables, carried_count, carried_table}

@@ -15,6 +15,7 @@ ghost use Rattle.carry_homes.specs.Code.{HOME_ROW, HOME_TABLE, listed_table, hom
 ghost use Rattle.carry_homes.specs.Code.{in_rank, RanksListed, home_key, kind_name, same_key, HomesTo, HomesFound};
 
 use base_fields::ByteOrder;
+use carry_clash::symbols_taken;
 use elf_check::View;
 
 // The bytes of a row: two words.

@@ -15,7 +15,7 @@ use Rattle.blocks_spans.specs.Table.{Gathered}
 use Rattle.blocks_spans.proofs.Table.{gathered_is, rows_of}
 use Rattle.merge_buffers.specs.Buffers.{PLACE_BUFFER, INDEX_BUFFER, blocks_part, places_part}
 use Rattle.base_buffers.proofs.Parts.{lent, put_back, part_long, part_lent, put_table, put_kept, kept_part}
-use Rattle.merge_sections.specs.declared.Stage.{Stage}
+use Rattle.symbols_stage.specs.of_merge_sections.declared.Stage.{Stage}
 use Rattle.merge_kept.specs.Kept.{kept}
 use Rattle.merge_kept.proofs.Kept.{kept_le}
 use Rattle.carry_homes.specs.declared.Homes.{Homes}

@@ -26,9 +26,9 @@ use Rattle.late_laws.proofs.Copied.{moves_copied}
 use Rattle.merge_buffers.specs.Buffers.{NUMBERS_AT, blocks_part, places_part, late_step_part, order_part, numbers_part, BuffersHeld}
 use Rattle.base_buffers.proofs.Parts.{part_long, kept_part}
 use Rattle.merge_labels.specs.Labels.{late_start}
-use Rattle.merge_sections.specs.declared.Stage.{Stage}
-use Rattle.merge_sections.specs.Stages.{StageRead, Movable}
-use Rattle.merge_sections.proofs.Sections.{step_runs, step_start}
+use Rattle.symbols_stage.specs.of_merge_sections.declared.Stage.{Stage}
+use Rattle.symbols_stage.specs.of_merge_sections.Stages.{StageRead, Movable}
+use Rattle.symbols_stage.proofs.of_merge_sections.Sections.{step_runs, step_start}
 use Rattle.symbols_ids.specs.Ids.{first_a, merge_candidates}
 use Rattle.symbols_numbers.specs.Result.{NumbersOf}
 use Rattle.symbols_stage.specs.declared.Manner.{Manner}

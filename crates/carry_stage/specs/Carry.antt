@@ -20,7 +20,7 @@ use Rattle.late_walk.specs.Table.{Moves}
 use Rattle.base_buffers.specs.Parts.{KeptBefore}
 use Rattle.merge_buffers.specs.Buffers.{STEP_BUFFER, INDEX_BUFFER, places_part, late_step_part, numbers_part}
 use Rattle.merge_labels.specs.Labels.{late_start}
-use Rattle.merge_sections.specs.declared.Stage.{Stage}
+use Rattle.symbols_stage.specs.of_merge_sections.declared.Stage.{Stage}
 use Rattle.merge_kept.specs.Kept.{kept}
 use Rattle.symbols_ids.specs.Ids.{merge_candidates}
 use Rattle.symbols_numbers.specs.Result.{NumbersOf}

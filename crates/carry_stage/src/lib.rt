@@ -11,17 +11,19 @@ ghost use Rattle.blocks_file.specs.Blocks.{block_count};
 ghost use Rattle.blocks_places.specs.Lines.{line_count};
 ghost use Rattle.blocks_places.specs.Table.{places_in, Laid};
 ghost use Rattle.merge_buffers.specs.Buffers.{BLOCK_BUFFER, PLACE_BUFFER, INDEX_BUFFER, blocks_part, places_part};
-ghost use Rattle.merge_sections.specs.Stages.{StageRead};
+ghost use Rattle.symbols_stage.specs.of_merge_sections.Stages.{StageRead};
 ghost use Rattle.carry_entries.specs.Entries.{loss_finding};
 ghost use Rattle.carry_entries.specs.Carried.{LOST_ENTRY};
 ghost use Rattle.carry_entries.specs.Code.{carrying_in, EntriesRead};
 ghost use Rattle.carry_stage.specs.Carry.{TextSpansLeft, HomesLeft, CarryMade, side_of_c, side_of_a, carry_verdict_in, SidesRead, CarryJudged};
 
 use base_answers::Verdict;
+pub use carry_entries;
 use carry_entries::Side;
 use carry_homes::Homes;
 use merge_inputs::Inputs;
-use merge_sections::Stage;
+pub use symbols_stage;
+use symbols_stage::merge_sections::Stage;
 
 // Where the tables of carrying stand; the definitions in specs/Tables.antt have the same names.
 pub const CARRY_SPANS_AT: usize = 49152;

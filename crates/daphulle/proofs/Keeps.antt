@@ -8,8 +8,8 @@ use lib.Seq.{take-append_seam}
 use Rattle.base_buffers.specs.Buffers.{zeros}
 use Rattle.base_answers.specs.declared.Outcome.{Outcome}
 use Rattle.base_answers.specs.Answers.{Answer, accepted, refused, length_outcome, outcome_of, result_of, output_of}
-use Rattle.merge_verdict.specs.Verdict.{merge_verdict}
-use Rattle.merge_verdict.proofs.Numbers.{merge_numbered}
+use Rattle.merge_call.specs.of_merge_verdict.Verdict.{merge_verdict}
+use Rattle.merge_call.proofs.of_merge_verdict.Numbers.{merge_numbered}
 use Rattle.demand_clauses.specs.Reading.{Bytes}
 use Rattle.demand_clauses.specs.Demand.{DemandThree}
 use Rattle.demand_three.proofs.Theorem.{no_reference_lost}

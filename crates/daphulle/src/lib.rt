@@ -6,7 +6,7 @@ ghost use Rattle.std.specs.Prelude.{length};
 ghost use Rattle.daphulle.specs.Keeps.{Keeps};
 ghost use Rattle.draft_call.specs.Verdict.{draft_verdict};
 ghost use Rattle.draft_call.specs.Drafted.{Drafted};
-ghost use Rattle.merge_verdict.specs.Verdict.{merge_verdict};
+ghost use Rattle.merge_call.specs.of_merge_verdict.Verdict.{merge_verdict};
 ghost use Rattle.merge_call.specs.Merged.{Merged};
 
 use base_answers::Outcome;

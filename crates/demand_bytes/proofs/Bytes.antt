@@ -39,9 +39,9 @@ use Rattle.merge_kept.proofs.Kept.{kept_le}
 use Rattle.symbols_taken.specs.Used.{is_section_of, code_of}
 use Rattle.write_strings.specs.Strings.{result_strings}
 use Rattle.write_object.specs.Object.{Plan, written_offset, is_moved_debug, written_content, moved_finding}
-use Rattle.write_plan.specs.Plan.{own_bytes, added_names, merged_plan, merged_object}
-use Rattle.write_plan.proofs.Sections.{debug_bytes_lem, other_holds}
-use Rattle.write_plan.proofs.Headers.{content_is, type_kept, debug_merged, merged_contents}
+use Rattle.merge_verdict.specs.of_write_plan.Plan.{own_bytes, added_names, merged_plan, merged_object}
+use Rattle.merge_verdict.proofs.of_write_plan.Sections.{debug_bytes_lem, other_holds}
+use Rattle.merge_verdict.proofs.of_write_plan.Headers.{content_is, type_kept, debug_merged, merged_contents}
 use Rattle.merge_verdict.specs.Verdict.{MergePassed}
 use Rattle.demand_clauses.proofs.Codes.{code_contents}
 use Rattle.demand_clauses.specs.TakenOver.{is_rewritten}

@@ -11,7 +11,7 @@ use Rattle.base_fields.specs.declared.ByteOrder.{ByteOrder}
 use Rattle.base_scope.specs.Codes.{TEXT, LATE_RODATA}
 use Rattle.elf_readers.specs.Readers.{section, contents, coded_section, has_code, coded_contents}
 use Rattle.elf_readers.proofs.Readers.{code_there, coded_there, codes_apart}
-use Rattle.symbols_taken.specs.Used.{is_section_of, code_of}
+use Rattle.carry_entries.specs.of_symbols_taken.Used.{is_section_of, code_of}
 
 module _ (o : ByteOrder) (F : List ℕ) where
   pub code_low : (s : ℕ) → 1 ≤ code_of o F s

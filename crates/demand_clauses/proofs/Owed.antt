@@ -11,7 +11,7 @@ use Rattle.base_answers.specs.Answers.{COMPILED, ASSEMBLED}
 use Rattle.elf_readers.specs.Readers.{section_count}
 use Rattle.elf_relocations.specs.Relocations.{is_table, relocation_count}
 use Rattle.blocks_places.specs.Places.{Place}
-use Rattle.carry_clash.specs.Clash.{is_carried}
+use Rattle.carry_entries.specs.of_carry_clash.Clash.{is_carried}
 use Rattle.demand_clauses.specs.Reading.{Reference}
 use Rattle.demand_clauses.specs.TakenOver.{stays_c, is_owed_c, is_owed_a, is_owed, is_compiled}
 

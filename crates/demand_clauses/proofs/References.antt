@@ -12,8 +12,8 @@ use Rattle.blocks_places.specs.Places.{Place}
 use Rattle.late_length.specs.Late.{has_late_step}
 use Rattle.late_moves.specs.Moved.{is_moved}
 use Rattle.merge_labels.specs.Labels.{late_start}
-use Rattle.symbols_taken.specs.Used.{code_of}
-use Rattle.symbols_ids.specs.Entries.{late_place}
+use Rattle.carry_entries.specs.of_symbols_taken.Used.{code_of}
+use Rattle.carry_entries.specs.of_symbols_ids.Entries.{late_place}
 use Rattle.demand_clauses.specs.Reading.{Reference}
 use Rattle.demand_clauses.specs.TakenOver.{is_compiled, object_of, source_of, reference_code, offset_of, is_late_reference, target_of, has_offset, new_offset}
 

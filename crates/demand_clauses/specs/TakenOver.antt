@@ -25,10 +25,10 @@ use Rattle.statics_entry.specs.Entry.{nth}
 use Rattle.statics_walk.specs.Walk.{statics}
 use Rattle.merge_labels.specs.Labels.{late_start}
 use Rattle.merge_kept.specs.Kept.{kept}
-use Rattle.symbols_taken.specs.Used.{is_section_of, code_of}
-use Rattle.symbols_taken.specs.Taken.{is_taken_c, is_taken_a}
-use Rattle.symbols_ids.specs.Entries.{late_place, section_a, value_a}
-use Rattle.carry_clash.specs.Clash.{is_carried}
+use Rattle.carry_entries.specs.of_symbols_taken.Used.{is_section_of, code_of}
+use Rattle.carry_entries.specs.of_symbols_taken.Taken.{is_taken_c, is_taken_a}
+use Rattle.carry_entries.specs.of_symbols_ids.Entries.{late_place, section_a, value_a}
+use Rattle.carry_entries.specs.of_carry_clash.Clash.{is_carried}
 use Rattle.carry_entries.specs.Carried.{is_gone}
 use Rattle.carry_homes.specs.Homes.{carried_count, carried_table, new_count, home_of}
 use Rattle.demand_clauses.specs.Reading.{Reference, referred_symbol}

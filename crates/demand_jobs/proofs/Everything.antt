@@ -112,7 +112,7 @@ use Rattle.write_plan.specs.Answer.{merged_answer}
 use Rattle.write_plan.specs.Names.{name_written}
 use Rattle.write_plan.specs.Plan.{new_names, is_planned_table, table_bytes, own_bytes, added_names, planned_bytes, kept_heading, new_heading, merged_plan, merged_object}
 use Rattle.write_plan.specs.Tables.{kept_entries, joined_entries, table_entries}
-use Rattle.merge_verdict.specs.Verdict.{merge_bounds, is_path_byte, is_path, references_verdict, late_verdict, stages_verdict, carried_verdict, entries_answer, symbols_answer, late_answer, stages_answer, carried_answer, merge_verdict}
+use Rattle.demand_three.specs.of_merge_verdict.Verdict.{merge_bounds, is_path_byte, is_path, references_verdict, late_verdict, stages_verdict, carried_verdict, entries_answer, symbols_answer, late_answer, stages_answer, carried_answer, merge_verdict}
 use Rattle.demand_clauses.specs.Demand.{plain_name, DemandThree}
 use Rattle.demand_clauses.specs.Reading.{same_reference, reference_at, times_in, referred_symbol, reference_kind, symbol_binding, entries_at, all_entries}
 use Rattle.demand_clauses.specs.Reading as Reading

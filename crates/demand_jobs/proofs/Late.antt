@@ -8,7 +8,7 @@ use Rattle.base_answers.specs.Answers.{accepted}
 use Rattle.elf_records.specs.Relocation.{addend_fields}
 use Rattle.elf_samples.specs.Samples.{words}
 use Rattle.merge_buffers.specs.Buffers.{BLOCK_BUFFER, PLACE_BUFFER, STEP_BUFFER, INDEX_BUFFER}
-use Rattle.merge_verdict.specs.Verdict.{merge_verdict}
+use Rattle.demand_three.specs.of_merge_verdict.Verdict.{merge_verdict}
 use Rattle.demand_clauses.specs.Demand.{DemandThree}
 use Rattle.demand_jobs.specs.LateJob.{C, A, B, path, O, dummied, readdressed, unmoved, retargeted, tableless}
 use Rattle.demand_jobs.proofs.Everything.{everything}

@@ -3,7 +3,7 @@ use mathlib.Core.Path.{◌≡◌, refl}
 use Rattle.base_scope.specs.Refusals.{OUTPUT_ROOM}
 use Rattle.base_answers.specs.Answers.{accepted, refused, NONE}
 use Rattle.merge_buffers.specs.Buffers.{BLOCK_BUFFER, PLACE_BUFFER, STEP_BUFFER, INDEX_BUFFER}
-use Rattle.merge_verdict.specs.Verdict.{merge_verdict}
+use Rattle.demand_three.specs.of_merge_verdict.Verdict.{merge_verdict}
 use Rattle.demand_jobs.specs.Job.{C, A, B, path, O}
 use Rattle.demand_jobs.proofs.Everything.{everything}
 

@@ -7,7 +7,7 @@ use Rattle.base_packed.specs.Packed.{kind_of}
 use Rattle.base_packed.proofs.Packed.{kind_join}
 use Rattle.base_fields.specs.declared.ByteOrder.{ByteOrder}
 use Rattle.elf_relocations.specs.Relocations.{relocation}
-use Rattle.carry_entries.specs.Entries.{Carrying, goal_place, new_number, entry_goal, entry_symbol, carried_entry}
+use Rattle.demand_clauses.specs.of_carry_entries.Entries.{Carrying, goal_place, new_number, entry_goal, entry_symbol, carried_entry}
 
 module _ (o : ByteOrder) (F : List ℕ) (w : Carrying) (t k : ℕ) where
   pub carried_offset : (carried_entry o F w t k).r_offset ≡ goal_place (entry_goal o F w t k)

@@ -16,9 +16,9 @@ use Rattle.late_moves.specs.Moved.{is_moved}
 use Rattle.merge_labels.specs.Labels.{late_start}
 use Rattle.symbols_taken.specs.Used.{code_of}
 use Rattle.symbols_ids.specs.Entries.{late_place}
-use Rattle.carry_entries.specs.declared.Goal.{Goal}
-use Rattle.carry_entries.specs.Entries.{is_left_out, is_stuck, goal_place, entry_goal, is_kept}
-use Rattle.carry_entries.specs.Carried.{is_gone, goal_c, goal_a, carrying_c, carrying_a}
+use Rattle.demand_clauses.specs.of_carry_entries.declared.Goal.{Goal}
+use Rattle.demand_clauses.specs.of_carry_entries.Entries.{is_left_out, is_stuck, goal_place, entry_goal, is_kept}
+use Rattle.demand_clauses.specs.of_carry_entries.Carried.{is_gone, goal_c, goal_a, carrying_c, carrying_a}
 use Rattle.demand_clauses.specs.TakenOver.{stays_c}
 
 module _ (o : ByteOrder) (C A : List ℕ) (P : List Place) (B : List ℕ) where

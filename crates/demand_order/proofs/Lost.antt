@@ -20,8 +20,8 @@ use Rattle.elf_relocations.specs.Relocations.{is_rela, is_table, entry_size, rel
 use Rattle.blocks_places.specs.Places.{places_of}
 use Rattle.statics_table.specs.Statics.{name_head}
 use Rattle.carry_clash.specs.Clash.{is_carried}
-use Rattle.carry_entries.specs.Entries.{Carrying, OFFSETS, is_stuck, is_in_result, entry_goal, entry_symbol, is_kept, is_lost, loss_in, loss_at, loss_finding}
-use Rattle.carry_entries.specs.Carried.{LOST_ENTRY, carrying_c, carrying_a, carry_verdict}
+use Rattle.demand_clauses.specs.of_carry_entries.Entries.{Carrying, OFFSETS, is_stuck, is_in_result, entry_goal, entry_symbol, is_kept, is_lost, loss_in, loss_at, loss_finding}
+use Rattle.demand_clauses.specs.of_carry_entries.Carried.{LOST_ENTRY, carrying_c, carrying_a, carry_verdict}
 use Rattle.merge_verdict.specs.Verdict.{MergePassed}
 
 -- an offset is below 2 ^ 32

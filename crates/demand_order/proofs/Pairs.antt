@@ -23,17 +23,17 @@ use Rattle.statics_table.specs.Statics.{name_head}
 use Rattle.merge_kept.specs.Kept.{kept}
 use Rattle.merge_kept.proofs.Kept.{kept_le}
 use Rattle.carry_clash.specs.Clash.{clash_finding}
-use Rattle.carry_entries.specs.Entries.{Carrying, is_kept, carried_entry}
-use Rattle.carry_entries.specs.Carried.{carrying_c, carrying_a}
+use Rattle.demand_clauses.specs.of_carry_entries.Entries.{Carrying, is_kept, carried_entry}
+use Rattle.demand_clauses.specs.of_carry_entries.Carried.{carrying_c, carrying_a}
 use Rattle.carry_homes.specs.Homes.{carried_count, carried_table, new_count, home_of}
 use Rattle.carry_homes.proofs.Tables.{carried_lt, carried_is}
 use Rattle.write_object.specs.Object.{moved_finding}
-use Rattle.write_plan.specs.Plan.{is_planned_table, merged_plan, merged_object}
-use Rattle.write_plan.specs.Tables.{kept_entries, joined_entries, table_entries}
-use Rattle.write_plan.proofs.Sections.{planned_kept, planned_new}
-use Rattle.write_plan.proofs.Headers.{merged_count_lem}
-use Rattle.write_plan.proofs.Entries.{blank_entry}
-use Rattle.write_plan.proofs.Relocations.{table_merged, relocation_count_merged, relocation_merged, home_planned}
+use Rattle.merge_verdict.specs.of_write_plan.Plan.{is_planned_table, merged_plan, merged_object}
+use Rattle.merge_verdict.specs.of_write_plan.Tables.{kept_entries, joined_entries, table_entries}
+use Rattle.merge_verdict.proofs.of_write_plan.Sections.{planned_kept, planned_new}
+use Rattle.merge_verdict.proofs.of_write_plan.Headers.{merged_count_lem}
+use Rattle.merge_verdict.proofs.of_write_plan.Entries.{blank_entry}
+use Rattle.merge_verdict.proofs.of_write_plan.Relocations.{table_merged, relocation_count_merged, relocation_merged, home_planned}
 use Rattle.merge_verdict.specs.Verdict.{MergePassed}
 use Rattle.demand_clauses.specs.Reading.{Reference, no_reference, reference_at, entries_at, all_entries}
 use Rattle.demand_clauses.specs.TakenOver.{stays_c, references_c, references_a, is_owed, origins_at, origins, is_compiled}

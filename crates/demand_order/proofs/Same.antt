@@ -25,16 +25,16 @@ use Rattle.merge_kept.specs.Kept.{kept}
 use Rattle.merge_kept.proofs.Kept.{table_kept}
 use Rattle.symbols_taken.specs.Used.{code_of}
 use Rattle.carry_clash.specs.Clash.{carried_code}
-use Rattle.carry_entries.specs.Entries.{Carrying, is_stuck, goal_place, entry_goal, carried_entry}
-use Rattle.carry_entries.specs.Carried.{carrying_c, carrying_a}
+use Rattle.demand_clauses.specs.of_carry_entries.Entries.{Carrying, is_stuck, goal_place, entry_goal, carried_entry}
+use Rattle.demand_clauses.specs.of_carry_entries.Carried.{carrying_c, carrying_a}
 use Rattle.carry_homes.specs.Homes.{carried_count, carried_table, home_of}
 use Rattle.write_object.specs.Object.{Plan, written_offset, written_size}
 use Rattle.write_object.specs.Steps.{heading_with}
-use Rattle.write_plan.specs.Plan.{kept_heading, merged_plan}
-use Rattle.write_plan.proofs.Sections.{table_not, symtab_not}
-use Rattle.write_plan.proofs.Headers.{heading_kept, type_kept as type-planned, merged_header}
-use Rattle.write_plan.proofs.Entries.{home_type}
-use Rattle.write_plan.proofs.Relocations.{home_info, table_link_merged}
+use Rattle.merge_verdict.specs.of_write_plan.Plan.{kept_heading, merged_plan}
+use Rattle.merge_verdict.proofs.of_write_plan.Sections.{table_not, symtab_not}
+use Rattle.merge_verdict.proofs.of_write_plan.Headers.{heading_kept, type_kept as type-planned, merged_header}
+use Rattle.merge_verdict.proofs.of_write_plan.Entries.{home_type}
+use Rattle.merge_verdict.proofs.of_write_plan.Relocations.{home_info, table_link_merged}
 use Rattle.merge_verdict.specs.Verdict.{MergePassed}
 use Rattle.demand_clauses.specs.Reading.{Reference, reference_kind}
 use Rattle.demand_clauses.specs.TakenOver.{is_compiled, object_of, target_of, has_offset, new_offset}

@@ -25,16 +25,16 @@ use Rattle.symbols_merge.specs.Listed.{symbols_verdict}
 use Rattle.symbols_taken.specs.Passed.{TakenPassed}
 use Rattle.symbols_taken.proofs.Passed.{taken_passed}
 use Rattle.symbols_ids.specs.Ids.{merge_candidates}
-use Rattle.symbols_stage.specs.Verdict.{list_verdict, symbol_stages_verdict}
+use Rattle.demand_symbols.specs.of_symbols_stage.Verdict.{list_verdict, symbol_stages_verdict}
 use Rattle.carry_clash.specs.Clash.{clash_finding}
 use Rattle.write_strings.proofs.Names.{Full}
 use Rattle.write_object.specs.Object.{Plan, moved_finding}
-use Rattle.write_plan.specs.Plan.{merged_plan, merged_object}
-use Rattle.write_plan.proofs.Headers.{many_is, merged_count_lem, kept_name, new_name_read}
-use Rattle.write_plan.proofs.Symbols.{symtab_merged, strtab_merged, symbol_count_merged}
-use Rattle.merge_verdict.specs.Verdict.{MergePassed}
-use Rattle.merge_verdict.proofs.Limits.{path_full}
-use Rattle.demand_clauses.specs.Demand.{RESULT_SECTIONS, RESULT_SYMBOLS, Reads}
+use Rattle.demand_symbols.specs.of_write_plan.Plan.{merged_plan, merged_object}
+use Rattle.demand_symbols.proofs.of_write_plan.Headers.{many_is, merged_count_lem, kept_name, new_name_read}
+use Rattle.demand_symbols.proofs.of_write_plan.Symbols.{symtab_merged, strtab_merged, symbol_count_merged}
+use Rattle.demand_symbols.specs.of_merge_verdict.Verdict.{MergePassed}
+use Rattle.demand_symbols.proofs.of_merge_verdict.Limits.{path_full}
+use Rattle.demand_symbols.specs.of_demand_clauses.Demand.{RESULT_SECTIONS, RESULT_SYMBOLS, Reads}
 use Rattle.demand_symbols.proofs.Symbols.{pathed_kept}
 use Rattle.demand_reads.proofs.Header.{header_sound_lem, headings_end, order_kept}
 use Rattle.demand_reads.proofs.Sections.{kept_type, held_inside, home_named}

@@ -1,3 +1,4 @@
+pub use Rattle.demand_symbols.proofs as of_demand_symbols
 pub mod Header
 pub mod Sections
 pub mod Names

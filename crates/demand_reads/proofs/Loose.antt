@@ -38,7 +38,7 @@ use Rattle.symbols_taken.proofs.Symbols.{taken_null}
 use Rattle.symbols_ids.specs.Entries.{finished, is_placed_a, section_a, is_glabel_a, type_a, entry_a}
 use Rattle.symbols_ids.specs.Ids.{first_a, first_static, by_origin, name_of, entry_static, entry_of, candidates, merge_candidates}
 use Rattle.symbols_fill.proofs.Origins.{origin_own, origin_other}
-use Rattle.demand_clauses.specs.Demand.{RESULT_SYMBOLS}
+use Rattle.demand_symbols.specs.of_demand_clauses.Demand.{RESULT_SYMBOLS}
 use Rattle.demand_reads.proofs.Few.{at_most}
 
 -- ---- refusal 18

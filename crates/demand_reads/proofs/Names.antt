@@ -35,9 +35,9 @@ use Rattle.write_object.specs.Object.{Plan, written_front, moved_finding}
 use Rattle.write_object.specs.Steps.{heading_with}
 use Rattle.write_object.proofs.Own.{own_ident}
 use Rattle.write_object.proofs.ReadBack.{header_back}
-use Rattle.write_plan.specs.Plan.{new_names, own_bytes, kept_heading, new_heading, merged_plan, merged_object}
-use Rattle.write_plan.proofs.Sections.{strtab_type, names_bytes, names_front}
-use Rattle.write_plan.proofs.Headers.{merged_count_lem, merged_contents, kept_header, new_header, type_kept, kept_name, new_name_read}
+use Rattle.demand_symbols.specs.of_write_plan.Plan.{new_names, own_bytes, kept_heading, new_heading, merged_plan, merged_object}
+use Rattle.demand_symbols.proofs.of_write_plan.Sections.{strtab_type, names_bytes, names_front}
+use Rattle.demand_symbols.proofs.of_write_plan.Headers.{merged_count_lem, merged_contents, kept_header, new_header, type_kept, kept_name, new_name_read}
 use Rattle.demand_reads.proofs.Sections.{kept_type}
 
 -- a search in which no index is at fault finds none

@@ -24,8 +24,8 @@ use Rattle.write_object.specs.Object.{Plan, moved_finding}
 use Rattle.write_object.specs.Steps.{heading_with}
 use Rattle.write_object.proofs.Own.{own_ident}
 use Rattle.write_object.proofs.ReadBack.{type_back, contents_inside}
-use Rattle.write_plan.specs.Plan.{kept_heading, merged_plan, merged_object}
-use Rattle.write_plan.proofs.Headers.{many_is, placed_typed, merged_count_lem, kept_header, kept_name, new_name_read}
+use Rattle.demand_symbols.specs.of_write_plan.Plan.{kept_heading, merged_plan, merged_object}
+use Rattle.demand_symbols.proofs.of_write_plan.Headers.{many_is, placed_typed, merged_count_lem, kept_header, kept_name, new_name_read}
 
 -- ---- the section of a name
 

@@ -42,11 +42,11 @@ use Rattle.write_object.specs.Object.{Plan, moved_finding}
 use Rattle.write_object.specs.Steps.{heading_with}
 use Rattle.write_object.proofs.Own.{own_ident}
 use Rattle.write_object.proofs.ReadBack.{size_back, size_held}
-use Rattle.write_plan.specs.Plan.{added_names, kept_heading, merged_plan, merged_object}
-use Rattle.write_plan.proofs.Sections.{null_kept, symbols_bytes}
-use Rattle.write_plan.proofs.Headers.{many_is, content_is, type_kept, merged_count_lem, kept_header}
-use Rattle.write_plan.proofs.Symbols.{symtab_merged, symbol_count_merged, symbol_merged, symbol_strings_merged}
-use Rattle.write_plan.proofs.Names.{named_all, entry_at, candidate_at, null_is, null_end, null_unnamed}
+use Rattle.demand_symbols.specs.of_write_plan.Plan.{added_names, kept_heading, merged_plan, merged_object}
+use Rattle.demand_symbols.proofs.of_write_plan.Sections.{null_kept, symbols_bytes}
+use Rattle.demand_symbols.proofs.of_write_plan.Headers.{many_is, content_is, type_kept, merged_count_lem, kept_header}
+use Rattle.demand_symbols.proofs.of_write_plan.Symbols.{symtab_merged, symbol_count_merged, symbol_merged, symbol_strings_merged}
+use Rattle.demand_symbols.proofs.of_write_plan.Names.{named_all, entry_at, candidate_at, null_is, null_end, null_unnamed}
 use Rattle.demand_reads.proofs.Clash.{index_sound_lem}
 use Rattle.demand_reads.proofs.Entries.{entry_index}
 

@@ -29,10 +29,10 @@ use Rattle.carry_homes.proofs.Tables.{code_first, code_last, carried_is}
 use Rattle.carry_homes.proofs.Joins.{goal_lines, opened_lt}
 use Rattle.write_object.specs.Object.{moved_finding}
 use Rattle.write_object.specs.Steps.{heading_with}
-use Rattle.write_plan.specs.Plan.{is_planned_table, kept_heading, new_heading, merged_plan, merged_object}
-use Rattle.write_plan.proofs.Sections.{table_typed, symtab_not, planned_kept}
-use Rattle.write_plan.proofs.Headers.{merged_count_lem, kept_header, new_header}
-use Rattle.write_plan.proofs.Relocations.{table_merged, table_entsize_merged, table_link_merged}
+use Rattle.demand_symbols.specs.of_write_plan.Plan.{is_planned_table, kept_heading, new_heading, merged_plan, merged_object}
+use Rattle.demand_symbols.proofs.of_write_plan.Sections.{table_typed, symtab_not, planned_kept}
+use Rattle.demand_symbols.proofs.of_write_plan.Headers.{merged_count_lem, kept_header, new_header}
+use Rattle.demand_symbols.proofs.of_write_plan.Relocations.{table_merged, table_entsize_merged, table_link_merged}
 use Rattle.demand_reads.proofs.Names.{all_clear}
 use Rattle.demand_reads.proofs.Few.{carried_holds}
 use Rattle.demand_reads.proofs.Clash.{coded_stays, info_stays}

@@ -22,7 +22,7 @@ use Rattle.symbols_merge.proofs.Merged.{Taken}
 use Rattle.symbols_taken.specs.Taken.{is_taken_c, is_taken_a}
 use Rattle.symbols_ids.specs.Entries.{finished, entry_a}
 use Rattle.symbols_ids.specs.Ids.{first_a, first_static, by_origin, name_of, entry_static, entry_of, candidates}
-use Rattle.symbols_fill.proofs.Origins.{origin_own, origin_other, origin_static}
+use Rattle.demand_clauses.proofs.of_symbols_fill.Origins.{origin_own, origin_other, origin_static}
 use Rattle.demand_clauses.specs.TakenOver.{Definition, no_definition, definition_c, definition_a, definition_static, taken_over}
 
 -- ---- any candidates

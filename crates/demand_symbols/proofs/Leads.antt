@@ -34,9 +34,9 @@ use Rattle.symbols_numbers.specs.declared.NewSymbol.{NewSymbol}
 use Rattle.symbols_numbers.specs.declared.NewSymbol.TheVariants.{Merged, Gone}
 use Rattle.symbols_numbers.specs.Result.{new_of}
 use Rattle.symbols_numbers.proofs.Result.{new_merged}
-use Rattle.symbols_stage.specs.Verdict.{list_verdict, symbol_stages_verdict}
-use Rattle.carry_entries.specs.Entries.{is_in_result, new_number}
-use Rattle.carry_entries.specs.Carried.{carrying_c, carrying_a}
+use Rattle.merge_verdict.specs.of_symbols_stage.Verdict.{list_verdict, symbol_stages_verdict}
+use Rattle.demand_clauses.specs.of_carry_entries.Entries.{is_in_result, new_number}
+use Rattle.demand_clauses.specs.of_carry_entries.Carried.{carrying_c, carrying_a}
 use Rattle.merge_verdict.specs.Verdict.{MergePassed}
 use Rattle.demand_clauses.specs.Reading.{Reference, referred_symbol}
 use Rattle.demand_clauses.specs.TakenOver.{Definition, no_definition, defines, has_definition, definition_c, definition_a, taken_over, is_compiled, referred_definition, merge_statics}

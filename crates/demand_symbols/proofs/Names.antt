@@ -26,7 +26,7 @@ use Rattle.statics_entry.specs.Entry.{nth}
 use Rattle.statics_symbols.specs.Entries.{symbol_of_static, static_symbol}
 use Rattle.symbols_ids.specs.Entries.{finished, entry_a}
 use Rattle.symbols_ids.specs.Ids.{by_origin, name_of, entry_static, entry_of}
-use Rattle.write_plan.specs.Names.{name_written}
+use Rattle.merge_verdict.specs.of_write_plan.Names.{name_written}
 use Rattle.demand_symbols.proofs.Ids.{by_id, of_c, of_a, of_static}
 
 -- a name that has its end starts inside its table

@@ -26,9 +26,9 @@ use Rattle.symbols_merge.specs.Merged.{merged_count, local_count, merged_at}
 use Rattle.symbols_merge.proofs.Merged.{merged_once, locals_first}
 use Rattle.symbols_ids.specs.Ids.{name_of, entry_of, candidates, merge_candidates}
 use Rattle.symbols_ids.specs.Table.{null_entry, result_entry}
-use Rattle.write_plan.specs.Names.{name_written}
-use Rattle.write_plan.proofs.Symbols.{symbol_count_merged, symbol_merged, symbol_info_merged}
-use Rattle.write_plan.proofs.Names.{entry_at as candidate-entry, candidate_at, null_ended, null_is, null_unnamed, name_merged}
+use Rattle.merge_verdict.specs.of_write_plan.Names.{name_written}
+use Rattle.merge_verdict.proofs.of_write_plan.Symbols.{symbol_count_merged, symbol_merged, symbol_info_merged}
+use Rattle.merge_verdict.proofs.of_write_plan.Names.{entry_at as candidate-entry, candidate_at, null_ended, null_is, null_unnamed, name_merged}
 use Rattle.merge_verdict.specs.Verdict.{MergePassed}
 use Rattle.merge_verdict.proofs.Limits.{path_full}
 use Rattle.demand_clauses.specs.Reading.{symbol_binding}

@@ -1,1 +1,3 @@
+pub use Rattle.demand_bytes.proofs as of_demand_bytes
+pub use Rattle.demand_bytes.proofs.of_merge_verdict
 pub mod Theorem

@@ -17,15 +17,15 @@ use Rattle.blocks_places.specs.Places.{Place, places_of}
 use Rattle.statics_table.specs.Statics.{name_head}
 use Rattle.carry_entries.specs.Entries.{Carrying, new_number, entry_symbol, carried_entry}
 use Rattle.carry_entries.specs.Carried.{carrying_c, carrying_a}
-use Rattle.merge_verdict.specs.Verdict.{merge_verdict, MergePassed}
-use Rattle.merge_verdict.proofs.Accepted.{merge_accepted}
-use Rattle.demand_clauses.specs.Reading.{Reference, reference_at, referred_symbol, all_entries, Bytes}
-use Rattle.demand_clauses.specs.TakenOver.{origins, is_compiled}
-use Rattle.demand_clauses.specs.Demand.{Leads, Same, DemandThree}
+use Rattle.demand_bytes.specs.of_merge_verdict.Verdict.{merge_verdict, MergePassed}
+use Rattle.demand_bytes.proofs.of_merge_verdict.Accepted.{merge_accepted}
+use Rattle.demand_bytes.specs.of_demand_clauses.Reading.{Reference, reference_at, referred_symbol, all_entries, Bytes}
+use Rattle.demand_bytes.specs.of_demand_clauses.TakenOver.{origins, is_compiled}
+use Rattle.demand_bytes.specs.of_demand_clauses.Demand.{Leads, Same, DemandThree}
 use Rattle.demand_reads.proofs.Accepted.{reads}
-use Rattle.demand_symbols.proofs.Symbols.{symbols_kept}
-use Rattle.demand_symbols.proofs.Leads.{leads_c, leads_a}
-use Rattle.demand_clauses.proofs.Owed.{owed_compiled, owed_assembled}
+use Rattle.demand_reads.proofs.of_demand_symbols.Symbols.{symbols_kept}
+use Rattle.demand_reads.proofs.of_demand_symbols.Leads.{leads_c, leads_a}
+use Rattle.demand_bytes.proofs.of_demand_clauses.Owed.{owed_compiled, owed_assembled}
 use Rattle.demand_order.proofs.Once.{owed_once}
 use Rattle.demand_order.proofs.Goals.{kept_c, kept_a}
 use Rattle.demand_order.proofs.Lost.{none_lost_c, none_lost_a}

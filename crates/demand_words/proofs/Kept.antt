@@ -19,7 +19,7 @@ use Rattle.late_length.specs.Late.{has_late_step}
 use Rattle.symbols_taken.specs.Used.{code_of, is_source_table}
 use Rattle.carry_clash.specs.Clash.{carried_code, is_carried}
 use Rattle.carry_homes.proofs.Tables.{code_first, code_last}
-use Rattle.write_plan.specs.Plan.{merged_object}
+use Rattle.merge_verdict.specs.of_write_plan.Plan.{merged_object}
 use Rattle.merge_verdict.specs.Verdict.{MergePassed}
 use Rattle.demand_clauses.specs.Reading.{Reference, word_at}
 use Rattle.demand_clauses.specs.TakenOver.{is_owed, is_compiled, object_of, source_of, offset_of, target_of, has_offset, new_offset, keeps_word}

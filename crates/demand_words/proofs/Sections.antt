@@ -23,10 +23,10 @@ use Rattle.merge_kept.specs.Kept.{kept}
 use Rattle.merge_kept.proofs.Kept.{coded_kept}
 use Rattle.symbols_taken.specs.Used.{is_section_of}
 use Rattle.write_object.specs.Object.{moved_finding}
-use Rattle.write_plan.specs.Plan.{own_bytes, planned_bytes, merged_plan, merged_object}
-use Rattle.write_plan.proofs.Sections.{front_type, strtab_type, table_not, symtab_not, other_holds, unadded}
+use Rattle.merge_verdict.specs.of_write_plan.Plan.{own_bytes, planned_bytes, merged_plan, merged_object}
+use Rattle.merge_verdict.proofs.of_write_plan.Sections.{front_type, strtab_type, table_not, symtab_not, other_holds, unadded}
 use Rattle.demand_clauses.proofs.Codes.{section_code}
-use Rattle.write_plan.proofs.Headers.{type_kept, merged_contents, nobits_merged}
+use Rattle.merge_verdict.proofs.of_write_plan.Headers.{type_kept, merged_contents, nobits_merged}
 
 -- ---- their types
 

@@ -41,7 +41,7 @@ use Rattle.symbols_taken.specs.Used.{code_of}
 use Rattle.symbols_ids.specs.Entries.{late_place}
 use Rattle.carry_clash.specs.Clash.{is_stale, is_cut, joined_section, is_misjoined, clash_at, clash_finding}
 use Rattle.write_object.specs.Object.{moved_finding}
-use Rattle.write_plan.specs.Plan.{merged_plan, merged_object}
+use Rattle.merge_verdict.specs.of_write_plan.Plan.{merged_plan, merged_object}
 use Rattle.demand_clauses.specs.Reading.{word_at}
 use Rattle.demand_clauses.proofs.Codes.{code_low, code_section, code_contents}
 use Rattle.demand_words.proofs.Sections.{coded_merged, bss_merged}

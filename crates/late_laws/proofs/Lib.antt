@@ -1,1 +1,3 @@
+pub use Rattle.late_runs.proofs.of_late_lookups
+pub use Rattle.late_walk.proofs as of_late_walk
 pub mod Copied

@@ -1,2 +1,3 @@
+pub use Rattle.late_lookups.specs as of_late_lookups
 pub mod Runs
 pub mod Words

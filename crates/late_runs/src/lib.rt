@@ -12,6 +12,7 @@ ghost use Rattle.late_lookups.specs.Fields.{SOURCE, LAST, late_field, row_dummie
 ghost use Rattle.late_runs.specs.Words.{dummy_place, dummy_over, moved_on, gap_to, word_run, table_run, row_run, run_read, Rising, AtWord, InHand};
 
 use base_fields::ByteOrder;
+pub use late_lookups;
 
 // A run of bytes of one kind: so many bytes as they were; A's late bytes from an offset on, so many; so many zeros.
 #[derive(Clone, Copy)]

@@ -25,19 +25,19 @@ use Rattle.base_buffers.proofs.Parts.{lent, put_back, part_long, part_lent, put_
 use Rattle.merge_inputs.specs.Taken.{Took}
 use Rattle.merge_sections.specs.declared.Stage.{Stage}
 use Rattle.merge_sections.specs.Stages.{StageRead, Movable, Searched}
-use Rattle.symbols_stage.specs.Verdict.{symbol_stages_verdict}
-use Rattle.symbols_stage.specs.declared.Manner.{Manner}
-use Rattle.symbols_stage.specs.declared.Counts.{Counts}
-use Rattle.symbols_stage.specs.declared.SymbolsEnd.{SymbolsEnd}
-use Rattle.symbols_stage.specs.declared.SymbolsEnd.TheVariants.{Numbered, Refused as Unnumbered}
-use Rattle.symbols_stage.specs.End.{end_verdict, SymbolsHeld, StageEnd}
+use Rattle.merge_verdict.specs.of_symbols_stage.Verdict.{symbol_stages_verdict}
+use Rattle.merge_verdict.specs.of_symbols_stage.declared.Manner.{Manner}
+use Rattle.merge_verdict.specs.of_symbols_stage.declared.Counts.{Counts}
+use Rattle.merge_verdict.specs.of_symbols_stage.declared.SymbolsEnd.{SymbolsEnd}
+use Rattle.merge_verdict.specs.of_symbols_stage.declared.SymbolsEnd.TheVariants.{Numbered, Refused as Unnumbered}
+use Rattle.merge_verdict.specs.of_symbols_stage.End.{end_verdict, SymbolsHeld, StageEnd}
 use Rattle.carry_entries.specs.Carried.{carry_verdict}
-use Rattle.carry_stage.specs.declared.Carry.{Carry}
-use Rattle.carry_stage.specs.Tables.{HOMES_AT}
-use Rattle.carry_stage.specs.Carry.{SidesRead, CarryMade, CarryJudged}
-use Rattle.carry_stage.proofs.Stage.{ready_read, ready_movable, ready_symbols, ready_held, ready_carry, sides_read}
-use Rattle.write_planned.specs.Held.{held_places}
-use Rattle.write_plan.specs.Answer.{merged_answer}
+use Rattle.write_merged.specs.of_carry_stage.declared.Carry.{Carry}
+use Rattle.write_merged.specs.of_carry_stage.Tables.{HOMES_AT}
+use Rattle.write_merged.specs.of_carry_stage.Carry.{SidesRead, CarryMade, CarryJudged}
+use Rattle.write_merged.proofs.of_carry_stage.Stage.{ready_read, ready_movable, ready_symbols, ready_held, ready_carry, sides_read}
+use Rattle.write_merged.specs.of_write_planned.Held.{held_places}
+use Rattle.merge_verdict.specs.of_write_plan.Answer.{merged_answer}
 use Rattle.write_merged.specs.Merged.{MergedReady}
 use Rattle.merge_verdict.specs.Verdict.{entries_answer, symbols_answer}
 use Rattle.merge_verdict.proofs.Accepted.{answer_symbols, answer_numbered, answer_20, answer_result}

@@ -1,2 +1,3 @@
+pub use Rattle.merge_verdict.specs as of_merge_verdict
 pub mod Merged
 pub mod Path

@@ -12,8 +12,8 @@ ghost use Rattle.merge_buffers.specs.Buffers.{BLOCK_BUFFER, PLACE_BUFFER, STEP_B
 ghost use Rattle.merge_inputs.specs.Taken.{Took, InputsRead};
 ghost use Rattle.merge_line_up.specs.Answer.{LinesUp};
 ghost use Rattle.merge_sections.specs.Stages.{StageRead, Movable, Searchable, Searched};
-ghost use Rattle.symbols_stage.specs.End.{SymbolsHeld};
-ghost use Rattle.write_planned.specs.Held.{held_places};
+ghost use Rattle.merge_verdict.specs.of_symbols_stage.End.{SymbolsHeld};
+ghost use Rattle.write_merged.specs.of_write_planned.Held.{held_places};
 ghost use Rattle.merge_verdict.specs.Verdict.{is_path_byte, is_path, merge_bounds, carried_answer, stages_answer, late_answer, symbols_answer, entries_answer, merge_verdict};
 ghost use Rattle.merge_call.specs.Path.{PathHeld};
 ghost use Rattle.merge_call.specs.Merged.{Merged};
@@ -23,9 +23,11 @@ use base_scope::Finding;
 use merge_inputs::Inputs;
 use merge_line_up::LinedUp;
 use merge_sections::Stage;
+use merge_verdict::symbols_stage;
+use merge_verdict::symbols_stage::{Counts, Manner, SymbolsEnd};
 use open_inputs::Opened;
-use symbols_stage::{Counts, Manner, SymbolsEnd};
-use write_planned::Writing;
+use write_merged::carry_stage;
+use write_merged::write_planned::Writing;
 
 // Whether a byte may stand in a path.
 fn is_path_byte(x: u8) -> bool

@@ -30,8 +30,8 @@ use Rattle.copy_spans.proofs.Records.{copied_front}
 use Rattle.late_length.specs.declared.LateStep.{LateStep}
 use Rattle.late_length.specs.Late.{has_late_step}
 use Rattle.late_moves.specs.Moved.{late_rodata}
-use Rattle.late_walk.specs.Table.{Ready, Walk}
-use Rattle.late_walk.proofs.Walk.{moves_of}
+use Rattle.late_laws.specs.of_late_walk.Table.{Ready, Walk}
+use Rattle.late_laws.proofs.of_late_walk.Walk.{moves_of}
 use Rattle.late_laws.proofs.Copied.{fault_copied, rodata_written}
 use Rattle.late_rodata.specs.Writing.{rest_read, Moving, RestInHand}
 use Rattle.late_rodata.proofs.Writing.{rest_read_lem}

@@ -9,7 +9,7 @@ use Rattle.blocks_places.specs.Lines.{line_count}
 use Rattle.blocks_places.specs.Places.{Place}
 use Rattle.blocks_places.specs.Table.{places_in}
 use Rattle.late_length.specs.Late.{has_late_step}
-use Rattle.late_walk.specs.Table.{Ready, Moves}
+use Rattle.late_laws.specs.of_late_walk.Table.{Ready, Moves}
 use Rattle.merge_inputs.specs.Taken.{InputsRead}
 use Rattle.merge_line_up.specs.LineUp.{late_step_of}
 use Rattle.merge_line_up.specs.Agrees.{Agrees}

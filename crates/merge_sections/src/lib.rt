@@ -19,6 +19,7 @@ ghost use Rattle.merge_sections.specs.Sections.{result_section, register_bytes};
 ghost use Rattle.merge_sections.specs.Stages.{StageRead, Searchable, Searched, Movable};
 
 use base_scope::Finding;
+use late_laws::late_walk;
 use late_length::LateStep;
 use merge_inputs::Inputs;
 

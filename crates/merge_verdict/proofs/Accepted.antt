@@ -42,15 +42,15 @@ use Rattle.merge_line_up.specs.declared.LinedUp.TheVariants.{Lined, Refused as U
 use Rattle.merge_line_up.specs.LineUp.{line_up_verdict}
 use Rattle.merge_line_up.specs.Answer.{lined_verdict, LinesUp}
 use Rattle.merge_line_up.proofs.Agrees.{agrees_of}
-use Rattle.merge_sections.specs.Sections.{step_finding, late_finding}
-use Rattle.merge_sections.specs.Stages.{StageRead}
+use Rattle.write_plan.specs.of_merge_sections.Sections.{step_finding, late_finding}
+use Rattle.write_plan.specs.of_merge_sections.Stages.{StageRead}
 use Rattle.symbols_stage.specs.Verdict.{symbol_stages_verdict}
 use Rattle.symbols_stage.specs.declared.Counts.{Counts}
 use Rattle.symbols_stage.specs.declared.SymbolsEnd.{SymbolsEnd}
 use Rattle.symbols_stage.specs.declared.SymbolsEnd.TheVariants.{Numbered, Refused as Unnumbered}
 use Rattle.symbols_stage.specs.End.{end_verdict}
-use Rattle.carry_clash.specs.Clash.{CLASH, clash_finding}
-use Rattle.carry_entries.specs.Carried.{carry_verdict}
+use Rattle.write_plan.specs.of_carry_clash.Clash.{CLASH, clash_finding}
+use Rattle.write_plan.specs.of_carry_entries.Carried.{carry_verdict}
 use Rattle.write_object.specs.Object.{moved_finding}
 use Rattle.write_plan.specs.Plan.{merged_plan, merged_object}
 use Rattle.write_plan.specs.Answer.{merged_answer}

@@ -24,9 +24,9 @@ use Rattle.merge_inputs.specs.Verdict.{inputs_verdict}
 use Rattle.merge_missing.specs.Missing.{missing_verdict}
 use Rattle.merge_line_up.specs.LineUp.{labels_verdict, line_up_verdict}
 use Rattle.symbols_merge.specs.Listed.{symbols_verdict}
-use Rattle.symbols_taken.specs.Taken.{taken_verdict}
+use Rattle.write_plan.specs.of_symbols_taken.Taken.{taken_verdict}
 use Rattle.symbols_stage.specs.Verdict.{list_verdict, symbol_stages_verdict}
-use Rattle.carry_entries.specs.Carried.{carry_verdict}
+use Rattle.write_plan.specs.of_carry_entries.Carried.{carry_verdict}
 use Rattle.write_plan.specs.Answer.{merged_answer}
 use Rattle.merge_verdict.specs.Verdict.{references_verdict, late_verdict, stages_verdict, carried_verdict, carried_answer, merge_verdict}
 

@@ -23,10 +23,10 @@ use Rattle.merge_buffers.specs.Buffers.{BLOCK_BUFFER, PLACE_BUFFER, STEP_BUFFER,
 use Rattle.merge_inputs.specs.Verdict.{inputs_verdict, InputsPassed}
 use Rattle.merge_line_up.specs.LineUp.{line_up_verdict}
 use Rattle.merge_line_up.specs.Agrees.{Agrees}
-use Rattle.merge_sections.specs.Sections.{late_finding}
+use Rattle.write_plan.specs.of_merge_sections.Sections.{late_finding}
 use Rattle.symbols_stage.specs.Verdict.{symbol_stages_verdict}
-use Rattle.carry_clash.specs.Clash.{CLASH, clash_finding}
-use Rattle.carry_entries.specs.Carried.{carry_verdict}
+use Rattle.write_plan.specs.of_carry_clash.Clash.{CLASH, clash_finding}
+use Rattle.write_plan.specs.of_carry_entries.Carried.{carry_verdict}
 use Rattle.write_object.specs.Object.{moved_finding}
 use Rattle.write_plan.specs.Plan.{merged_plan, merged_object}
 use Rattle.write_plan.specs.Answer.{merged_answer}

@@ -6,12 +6,12 @@ use native.Mathlib.Omega.{arith}
 use lib.ListN.{length}
 use Rattle.base_fields.specs.declared.ByteOrder.{ByteOrder}
 use Rattle.base_scope.specs.Limits.{ID_LIMIT, ID_ROW}
-use Rattle.symbols_names.specs.declared.Sources.{Sources}
+use Rattle.symbols_fill.specs.of_symbols_names.declared.Sources.{Sources}
 use Rattle.symbols_rows.specs.Rows.{RowsOf}
 use Rattle.symbols_rows.specs.Steps.{ids_listed, Listing}
 use Rattle.symbols_rows.proofs.Tables.{rows_of, list_of}
-use Rattle.symbols_holders.specs.Ready.{id_count, id_name, HoldersReady}
-use Rattle.symbols_holders.proofs.Holders.{list_few}
+use Rattle.symbols_fill.specs.of_symbols_holders.Ready.{id_count, id_name, HoldersReady}
+use Rattle.symbols_fill.proofs.of_symbols_holders.Holders.{list_few}
 use Rattle.symbols_fill.specs.declared.Filling.{Filling}
 use Rattle.symbols_fill.specs.Fill.{row_of, PlacesReady, FilledRows}
 use Rattle.symbols_fill.proofs.Filled.{ids_few}

@@ -10,11 +10,11 @@ use Rattle.symbols_merge.specs.Listed.{symbols_verdict}
 use Rattle.symbols_merge.specs.Merged.{number_of}
 use Rattle.symbols_merge.proofs.Merged.{Taken}
 use Rattle.symbols_merge.proofs.Agree.{Agree, verdict_agree}
-use Rattle.symbols_ids.specs.Ids.{candidates}
+use Rattle.symbols_fill.specs.of_symbols_ids.Ids.{candidates}
 use Rattle.symbols_rows.specs.Rows.{half_in, HoldersOf}
 use Rattle.symbols_rows.specs.Steps.{Holders, verdict_in}
 use Rattle.symbols_rows.proofs.Tables.{holders_of, verdict_is}
-use Rattle.symbols_holders.specs.Ready.{id_count, id_name, symbols_in}
+use Rattle.symbols_fill.specs.of_symbols_holders.Ready.{id_count, id_name, symbols_in}
 use Rattle.symbols_numbers.specs.Numbers.{Tables, HoldersFirst, IdRoom}
 use Rattle.symbols_numbers.specs.Result.{StartsOf, OrderOf, NumbersOf}
 use Rattle.symbols_numbers.proofs.Result.{tables_in_lem, holders_first, room_in, starts_of, order_of_lem, numbers_of, starts_agree, order_agree, numbers_agree}

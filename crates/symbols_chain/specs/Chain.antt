@@ -3,7 +3,7 @@
 use Rattle.std.specs.Prelude.{ℕ, ◌≡◌, List, length}
 use Rattle.symbols_merge.specs.Merged.{RESULT_GROUPS}
 use Rattle.symbols_rows.specs.Rows.{halves_in}
-use Rattle.symbols_holders.specs.Ready.{id_count, HoldersReady}
+use Rattle.symbols_fill.specs.of_symbols_holders.Ready.{id_count, HoldersReady}
 use Rattle.symbols_numbers.specs.Numbers.{order_in, group_starts, IdsNumbered}
 use Rattle.symbols_fill.specs.declared.Filling.{Filling}
 use Rattle.symbols_fill.specs.Fill.{FilledRows}

@@ -6,11 +6,13 @@ ghost use Rattle.std.specs.Prelude.{◌*◌, ◌≤◌, length};
 ghost use Rattle.base_scope.specs.Limits.{ID_LIMIT};
 ghost use Rattle.base_index.specs.Index.{Room};
 ghost use Rattle.symbols_rows.specs.Rows.{HoldersOf};
-ghost use Rattle.symbols_holders.specs.Ready.{KnownHashes, symbols_in, HoldersReady};
+ghost use Rattle.symbols_fill.specs.of_symbols_holders.Ready.{KnownHashes, symbols_in, HoldersReady};
 
 use base_fields::ByteOrder;
-use symbols_fill::Filling;
-use symbols_names::Sources;
+pub use merge_sections;
+pub use symbols_fill;
+use symbols_fill::symbols_names::Sources;
+use symbols_fill::{Filling, symbols_holders};
 
 // What is in hand of the result's symbols: what they were filled by, how many of its entries are local and how many it has, entry 0 counted in both.
 #[derive(Clone, Copy)]

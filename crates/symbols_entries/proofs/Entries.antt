@@ -18,10 +18,10 @@ use Rattle.elf_records.specs.declared.symbol.SymbolEntry.{SymbolEntry}
 use Rattle.elf_symbols.specs.Symbols.{symbol, symbol_strings, symbol_name}
 use Rattle.blocks_places.specs.Places.{Place}
 use Rattle.blocks_glabels.specs.Glabels.{is_glabel, glabel_size}
-use Rattle.symbols_taken.specs.Taken.{is_placed_in}
+use Rattle.symbols_names.specs.of_symbols_taken.Taken.{is_placed_in}
 use Rattle.symbols_glabels.specs.Words.{glabel_word, mark_in}
 use Rattle.symbols_glabels.proofs.Words.{word_glabel, word_size}
-use Rattle.symbols_ids.specs.Entries.{finished, is_placed_a, is_glabel_a, type_a, size_a, section_a, value_a, entry_a}
+use Rattle.symbols_names.specs.of_symbols_ids.Entries.{finished, is_placed_a, is_glabel_a, type_a, size_a, section_a, value_a, entry_a}
 use Rattle.symbols_entries.specs.Entries.{finished_as, type_by, size_by, word_by, moved_entry, assembled_in}
 
 -- with the flag of its name

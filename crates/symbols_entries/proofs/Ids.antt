@@ -26,8 +26,8 @@ use Rattle.statics_entry.specs.Entry.{nth}
 use Rattle.statics_walk.specs.Sound.{StaticsSound}
 use Rattle.statics_symbols.specs.Entries.{symbol_of_static, static_symbol}
 use Rattle.symbols_glabels.specs.Words.{glabel_word, mark_in}
-use Rattle.symbols_ids.specs.Entries.{finished, section_a, value_a, entry_a}
-use Rattle.symbols_ids.specs.Ids.{first_a, by_origin, name_of, entry_static, entry_of}
+use Rattle.symbols_names.specs.of_symbols_ids.Entries.{finished, section_a, value_a, entry_a}
+use Rattle.symbols_names.specs.of_symbols_ids.Ids.{first_a, by_origin, name_of, entry_static, entry_of}
 use Rattle.symbols_names.specs.declared.Sources.{Sources}
 use Rattle.symbols_names.specs.Names.{first_in, SourcesRead}
 use Rattle.symbols_names.proofs.Names.{own_count, other_count, first_static_lem, rows_held}

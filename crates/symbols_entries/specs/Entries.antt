@@ -7,7 +7,7 @@ use Rattle.base_packed.specs.Packed.{binding_of, type_of, symbol_info, visibilit
 use Rattle.elf_records.specs.declared.symbol.SymbolEntry.{SymbolEntry}
 use Rattle.elf_symbols.specs.declared.SymbolTable.{SymbolTable}
 use Rattle.elf_symbols.specs.Symbols.{symbol_count, symbol, Table}
-use Rattle.symbols_taken.specs.Taken.{is_placed_in}
+use Rattle.symbols_names.specs.of_symbols_taken.Taken.{is_placed_in}
 use Rattle.symbols_glabels.specs.Words.{mark_in}
 
 -- `finished`, by whether the name is `_gp_disp`

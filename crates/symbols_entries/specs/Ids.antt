@@ -8,7 +8,7 @@ use Rattle.elf_symbols.specs.declared.SymbolTable.{SymbolTable}
 use Rattle.elf_symbols.specs.Symbols.{symbol_count, symbol}
 use Rattle.statics_table.specs.Table.{static_in}
 use Rattle.statics_symbols.specs.Entries.{symbol_of_static}
-use Rattle.symbols_ids.specs.Ids.{by_origin}
+use Rattle.symbols_names.specs.of_symbols_ids.Ids.{by_origin}
 use Rattle.symbols_names.specs.declared.Sources.{Sources}
 use Rattle.symbols_names.specs.Names.{SourcesRead}
 use Rattle.symbols_entries.specs.Entries.{assembled_in}

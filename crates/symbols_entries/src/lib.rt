@@ -8,11 +8,11 @@ ghost use Rattle.base_scope.specs.Elf.{STT_OBJECT};
 ghost use Rattle.base_scope.specs.Limits.{FILE_LIMIT, STATIC_LIMIT, STATIC_ROW};
 ghost use Rattle.base_packed.specs.Packed.{type_of};
 ghost use Rattle.elf_symbols.specs.Symbols.{symbol_count, symbol, Table};
-ghost use Rattle.symbols_taken.specs.Taken.{is_placed_in};
+ghost use Rattle.symbols_names.specs.of_symbols_taken.Taken.{is_placed_in};
 ghost use Rattle.statics_table.specs.Table.{static_in, statics_in};
 ghost use Rattle.statics_symbols.specs.Entries.{symbol_of_static};
-ghost use Rattle.symbols_ids.specs.Entries.{finished};
-ghost use Rattle.symbols_ids.specs.Ids.{name_of};
+ghost use Rattle.symbols_names.specs.of_symbols_ids.Entries.{finished};
+ghost use Rattle.symbols_names.specs.of_symbols_ids.Ids.{name_of};
 ghost use Rattle.symbols_names.specs.Names.{first_in};
 ghost use Rattle.symbols_entries.specs.Entries.{finished_as, type_by, size_by, word_by, moved_entry, assembled_in, AtAssembled};
 ghost use Rattle.symbols_entries.specs.Ids.{strings_in, origin_in, EntriesReady};
@@ -21,7 +21,9 @@ use base_fields::ByteOrder;
 use elf_records::SymbolEntry;
 use elf_symbols::SymbolTable;
 use statics_table::Static;
+pub use symbols_names;
 use symbols_names::Sources;
+pub use symbols_names::symbols_taken;
 
 // The type of an entry of the result: `_gp_disp` is an object.
 fn final_type(gp_disp: bool, info: u8) -> u8

@@ -15,16 +15,16 @@ use Rattle.elf_readers.specs.Readers.{coded_contents}
 use Rattle.elf_symbols.specs.Symbols.{symbol_count, symbol}
 use Rattle.elf_symbols.proofs.Symbols.{table_count}
 use Rattle.blocks_places.specs.Places.{Place}
-use Rattle.late_lookups.proofs.Lookups.{late_rows}
+use Rattle.late_laws.proofs.of_late_lookups.Lookups.{late_rows}
 use Rattle.merge_labels.specs.Labels.{late_start}
 use Rattle.statics_table.specs.declared.Static.{Static}
 use Rattle.statics_table.specs.Table.{statics_in}
 use Rattle.symbols_merge.proofs.Agree.{Agree}
-use Rattle.symbols_taken.specs.Taken.{is_taken_c, is_taken_a}
-use Rattle.symbols_taken.specs.Code.{used_bytes}
-use Rattle.symbols_ids.specs.Entries.{entry_a}
-use Rattle.symbols_ids.specs.Ids.{by_origin, name_of, entry_static, entry_of, candidates}
-use Rattle.symbols_names.proofs.Names.{ids_held}
+use Rattle.symbols_holders.specs.of_symbols_taken.Taken.{is_taken_c, is_taken_a}
+use Rattle.symbols_holders.specs.of_symbols_taken.Code.{used_bytes}
+use Rattle.symbols_holders.specs.of_symbols_ids.Entries.{entry_a}
+use Rattle.symbols_holders.specs.of_symbols_ids.Ids.{by_origin, name_of, entry_static, entry_of, candidates}
+use Rattle.symbols_holders.proofs.of_symbols_names.Names.{ids_held}
 use Rattle.symbols_rows.specs.Rows.{RowsOf, ListOf}
 use Rattle.symbols_rows.proofs.Rows.{row_fields}
 use Rattle.symbols_rows.proofs.Tables.{rows_of, filled_agree}

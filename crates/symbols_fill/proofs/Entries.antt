@@ -23,8 +23,8 @@ use Rattle.blocks_places.specs.Places.{Place}
 use Rattle.late_moves.specs.Moved.{is_moved}
 use Rattle.late_moves.proofs.Idle.{idle_moved}
 use Rattle.late_laws.proofs.Copied.{place_copied}
-use Rattle.late_lookups.specs.Lookups.{moved_offset}
-use Rattle.late_lookups.proofs.Lookups.{offset_moved}
+use Rattle.late_laws.specs.of_late_lookups.Lookups.{moved_offset}
+use Rattle.late_laws.proofs.of_late_lookups.Lookups.{offset_moved}
 use Rattle.merge_labels.specs.Labels.{late_start}
 use Rattle.statics_table.specs.declared.Static.{Static}
 use Rattle.statics_table.specs.Statics.{static_type, static_binding}
@@ -33,12 +33,12 @@ use Rattle.statics_table.proofs.Table.{length_statics, statics_at}
 use Rattle.statics_entry.specs.Entry.{nth}
 use Rattle.statics_walk.specs.Sound.{StaticsSound}
 use Rattle.statics_symbols.specs.Entries.{symbol_of_static, static_symbol}
-use Rattle.symbols_taken.specs.Taken.{is_taken_a, is_placed_in, symbol_code}
-use Rattle.symbols_taken.specs.Code.{code_in}
-use Rattle.symbols_taken.proofs.Sections.{code_range, code_is}
-use Rattle.symbols_taken.proofs.Faults.{target_low}
-use Rattle.symbols_ids.specs.Entries.{finished, late_place, is_placed_a, section_a, value_a, is_glabel_a, type_a, entry_a}
-use Rattle.symbols_ids.specs.Ids.{entry_static}
+use Rattle.symbols_holders.specs.of_symbols_taken.Taken.{is_taken_a, is_placed_in, symbol_code}
+use Rattle.symbols_holders.specs.of_symbols_taken.Code.{code_in}
+use Rattle.symbols_holders.proofs.of_symbols_taken.Sections.{code_range, code_is}
+use Rattle.symbols_holders.proofs.of_symbols_taken.Faults.{target_low}
+use Rattle.symbols_holders.specs.of_symbols_ids.Entries.{finished, late_place, is_placed_a, section_a, value_a, is_glabel_a, type_a, entry_a}
+use Rattle.symbols_holders.specs.of_symbols_ids.Ids.{entry_static}
 use Rattle.symbols_fill.specs.declared.Filling.{Filling}
 use Rattle.symbols_fill.specs.Fill.{place_by_entry, place_c, late_place_in, late_value_in, index_a, place_a, place_static}
 use Rattle.symbols_fill.specs.Stage.{FillStage}

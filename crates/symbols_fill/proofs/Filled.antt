@@ -7,7 +7,7 @@ use lib.ListN.{length}
 use Rattle.base_lists.specs.Windows.{spliced}
 use Rattle.base_lists.proofs.Ranges.{by-lt}
 use Rattle.base_scope.specs.Limits.{ID_LIMIT, ID_ROW}
-use Rattle.symbols_names.proofs.Names.{rows_held}
+use Rattle.symbols_holders.proofs.of_symbols_names.Names.{rows_held}
 use Rattle.symbols_rows.specs.declared.IdRow.{IdRow}
 use Rattle.symbols_rows.specs.Rows.{id_row, id_row_bytes}
 use Rattle.symbols_rows.proofs.Rows.{written_long, written_same, written_other}

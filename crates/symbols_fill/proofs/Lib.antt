@@ -1,3 +1,4 @@
+pub use Rattle.symbols_holders.proofs as of_symbols_holders
 pub mod Places
 pub mod Origins
 pub mod Filled

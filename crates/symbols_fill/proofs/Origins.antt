@@ -14,14 +14,14 @@ use Rattle.base_scope.specs.Limits.{SYMBOL_LIMIT}
 use Rattle.base_scope.specs.Text.{text}
 use Rattle.elf_symbols.specs.Symbols.{symbol_count}
 use Rattle.elf_symbols.proofs.Symbols.{table_count}
-use Rattle.symbols_taken.specs.Taken.{is_taken_c, is_taken_a}
-use Rattle.symbols_ids.specs.Ids.{first_a, first_static, by_origin}
-use Rattle.symbols_names.proofs.Names.{rows_held, name_own, name_other, name_static}
+use Rattle.symbols_holders.specs.of_symbols_taken.Taken.{is_taken_c, is_taken_a}
+use Rattle.symbols_holders.specs.of_symbols_ids.Ids.{first_a, first_static, by_origin}
+use Rattle.symbols_holders.proofs.of_symbols_names.Names.{rows_held, name_own, name_other, name_static}
 use Rattle.symbols_rows.specs.declared.IdRow.{IdRow}
 use Rattle.symbols_rows.specs.Rows.{Fits}
 use Rattle.symbols_holders.specs.Ready.{id_count}
-use Rattle.symbols_names.specs.declared.NameKind.{NameKind}
-use Rattle.symbols_names.specs.Names.{kind_of}
+use Rattle.symbols_holders.specs.of_symbols_names.declared.NameKind.{NameKind}
+use Rattle.symbols_holders.specs.of_symbols_names.Names.{kind_of}
 use Rattle.symbols_fill.specs.declared.SymbolPlace.{SymbolPlace}
 use Rattle.symbols_fill.specs.declared.Filling.{Filling}
 use Rattle.symbols_fill.specs.Fill.{place_c, place_a, place_static, taken_kind, is_taken, id_place, row_by, row_c, row_a, row_static, row_of, taken_row, no_row, SmallSections, PlacesReady}

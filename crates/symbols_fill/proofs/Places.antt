@@ -23,14 +23,14 @@ use Rattle.elf_symbols.specs.Symbols.{symbol_place, symbol}
 use Rattle.elf_check.specs.declared.View.{View}
 use Rattle.elf_check.specs.View.{section_in, Viewed}
 use Rattle.elf_check.proofs.Views.{view_section}
-use Rattle.late_lookups.specs.declared.LatePlace.{LatePlace}
-use Rattle.late_lookups.specs.declared.LatePlace.TheVariants.{Moved, Unmoved}
-use Rattle.late_lookups.specs.Fields.{SOURCE, DUMMIES, LAST, late_field, late_word, row_dummies, row_past, place_in_row, is_start, offset_at}
+use Rattle.late_laws.specs.of_late_lookups.declared.LatePlace.{LatePlace}
+use Rattle.late_laws.specs.of_late_lookups.declared.LatePlace.TheVariants.{Moved, Unmoved}
+use Rattle.late_laws.specs.of_late_lookups.Fields.{SOURCE, DUMMIES, LAST, late_field, late_word, row_dummies, row_past, place_in_row, is_start, offset_at}
 use Rattle.statics_table.specs.declared.Static.{Static}
 use Rattle.statics_table.specs.Statics.{static_binding}
 use Rattle.statics_table.specs.Table.{static_in}
-use Rattle.symbols_taken.specs.Taken.{is_placed_in}
-use Rattle.symbols_taken.specs.Code.{code_in}
+use Rattle.symbols_holders.specs.of_symbols_taken.Taken.{is_placed_in}
+use Rattle.symbols_holders.specs.of_symbols_taken.Code.{code_in}
 use Rattle.symbols_fill.specs.declared.SymbolPlace.{SymbolPlace}
 use Rattle.symbols_fill.specs.declared.Filling.{Filling}
 use Rattle.symbols_fill.specs.Fill.{place_by_entry, place_c, late_place_in, late_value_in, index_a, place_a, place_static, SmallSections}

@@ -10,16 +10,16 @@ use Rattle.elf_records.specs.declared.symbol.SymbolEntry.{SymbolEntry}
 use Rattle.elf_symbols.specs.Symbols.{symbol_count, symbol, symbol_name}
 use Rattle.elf_check.specs.declared.View.{View}
 use Rattle.elf_check.specs.View.{section_in, Viewed}
-use Rattle.late_lookups.specs.declared.LatePlace.{LatePlace}
-use Rattle.late_lookups.specs.declared.LatePlace.TheVariants.{Moved, Unmoved}
-use Rattle.late_lookups.specs.Fields.{offset_at}
+use Rattle.late_laws.specs.of_late_lookups.declared.LatePlace.{LatePlace}
+use Rattle.late_laws.specs.of_late_lookups.declared.LatePlace.TheVariants.{Moved, Unmoved}
+use Rattle.late_laws.specs.of_late_lookups.Fields.{offset_at}
 use Rattle.statics_table.specs.Statics.{working_name, static_binding}
 use Rattle.statics_table.specs.Table.{static_in}
-use Rattle.symbols_taken.specs.Taken.{is_taken_c, is_taken_a, is_placed_in}
-use Rattle.symbols_taken.specs.Code.{code_in, used_bytes, LateIn}
-use Rattle.symbols_ids.specs.Ids.{by_origin}
-use Rattle.symbols_names.specs.declared.NameKind.{NameKind}
-use Rattle.symbols_names.specs.Names.{kind_of, SourcesRead}
+use Rattle.symbols_holders.specs.of_symbols_taken.Taken.{is_taken_c, is_taken_a, is_placed_in}
+use Rattle.symbols_holders.specs.of_symbols_taken.Code.{code_in, used_bytes, LateIn}
+use Rattle.symbols_holders.specs.of_symbols_ids.Ids.{by_origin}
+use Rattle.symbols_holders.specs.of_symbols_names.declared.NameKind.{NameKind}
+use Rattle.symbols_holders.specs.of_symbols_names.Names.{kind_of, SourcesRead}
 use Rattle.symbols_rows.specs.declared.IdRow.{IdRow}
 use Rattle.symbols_rows.specs.Rows.{id_row}
 use Rattle.symbols_holders.specs.Ready.{id_count, id_name}

@@ -8,11 +8,11 @@ use Rattle.blocks_file.specs.Blocks.{block_count}
 use Rattle.blocks_places.specs.Places.{Place}
 use Rattle.blocks_places.specs.Faults.{Fitting}
 use Rattle.late_length.specs.Late.{has_late_step}
-use Rattle.late_walk.specs.Table.{Moves}
+use Rattle.late_laws.specs.of_late_walk.Table.{Moves}
 use Rattle.merge_labels.specs.Labels.{late_start}
 use Rattle.statics_table.specs.Table.{static_in}
-use Rattle.symbols_taken.specs.Passed.{TakenPassed}
-use Rattle.symbols_names.specs.Names.{SourcesRead}
+use Rattle.symbols_holders.specs.of_symbols_taken.Passed.{TakenPassed}
+use Rattle.symbols_holders.specs.of_symbols_names.Names.{SourcesRead}
 use Rattle.symbols_fill.specs.declared.Filling.{Filling}
 
 pub record FillStage (C A : List ℕ) (P : List Place) (B T late : List ℕ) (f : Filling) : Type 0 where

@@ -8,19 +8,23 @@ ghost use Rattle.base_scope.specs.Codes.{CODES};
 ghost use Rattle.base_scope.specs.Limits.{SYMBOL_LIMIT, ID_LIMIT, ID_ROW};
 ghost use Rattle.elf_symbols.specs.Symbols.{symbol_place, symbol_count, Tabled, Entries};
 ghost use Rattle.elf_check.specs.View.{section_in, Viewed};
-ghost use Rattle.symbols_taken.specs.Taken.{is_placed_in};
-ghost use Rattle.symbols_taken.specs.Code.{AtSymbol, LateIn};
+ghost use Rattle.symbols_holders.specs.of_symbols_taken.Taken.{is_placed_in};
+ghost use Rattle.symbols_holders.specs.of_symbols_taken.Code.{AtSymbol, LateIn};
 ghost use Rattle.symbols_rows.specs.Rows.{Fits};
 ghost use Rattle.symbols_holders.specs.Ready.{id_count};
 ghost use Rattle.symbols_fill.specs.Fill.{place_c, late_place_in, late_value_in, place_a, place_static, taken_row, no_row, row_c, row_a, row_static, SmallSections, AtSource, AtStatic, SourceReady, StaticsReady, FillReady, RowsPut, FilledRows};
 
 use base_fields::ByteOrder;
 use elf_check::View;
+use late_laws::late_lookups;
+use late_laws::late_lookups::LatePlace;
 use late_length::LateStep;
-use late_lookups::LatePlace;
 use merge_inputs::Inputs;
 use statics_table::Static;
-use symbols_names::{NameKind, Sources};
+pub use symbols_holders;
+pub use symbols_holders::symbols_names;
+use symbols_holders::symbols_names::{NameKind, Sources};
+use symbols_holders::symbols_taken;
 use symbols_rows::IdRow;
 
 // What is in hand to fill the rows: the inputs of the merge, its late step, where names are read, and the mode of its statics.

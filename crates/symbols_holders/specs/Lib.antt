@@ -1,1 +1,4 @@
+pub use Rattle.symbols_names.specs.of_symbols_ids
+pub use Rattle.symbols_names.specs as of_symbols_names
+pub use Rattle.symbols_names.specs.of_symbols_taken
 pub mod Ready

@@ -11,7 +11,7 @@ use Rattle.elf_symbols.specs.Symbols.{symbol_count, symbol_name}
 use Rattle.statics_table.specs.Table.{statics_in}
 use Rattle.symbols_merge.specs.Candidates.{Candidates}
 use Rattle.symbols_merge.specs.Listed.{listed}
-use Rattle.symbols_ids.specs.Ids.{name_of}
+use Rattle.symbols_names.specs.of_symbols_ids.Ids.{name_of}
 use Rattle.symbols_names.specs.declared.Sources.{Sources}
 use Rattle.symbols_names.specs.Names.{first_in, SourcesRead}
 use Rattle.symbols_rows.specs.Rows.{candidates_in, RowsOf, half_in, ListOf, HoldersOf}

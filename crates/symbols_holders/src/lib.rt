@@ -17,7 +17,9 @@ ghost use Rattle.symbols_rows.specs.Rows.{half_in};
 ghost use Rattle.symbols_holders.specs.Ready.{known_in, KnownHashes, Hashed, ListIndexed, ListHeld, PositionHeld, alike_in, id_count, id_name, symbols_in, HoldersReady, PositionReady, NamesHeld};
 
 use base_fields::ByteOrder;
+pub use symbols_names;
 use symbols_names::Sources;
+pub use symbols_names::symbols_taken;
 
 // How many bytes of `:` and a count there is room for.
 fn tail_room(number: u32, room: usize) -> usize

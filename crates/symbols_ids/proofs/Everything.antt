@@ -43,8 +43,8 @@ use Rattle.blocks_spans.specs.Spans.{span_end, is_span, span_of, spans_among, sp
 use Rattle.blocks_spans.specs.Table.{span_in, spans_in, span_ends, span_row, ends_behind, span_from, next_span}
 use Rattle.late_dummies.specs.Dummies.{word_at, found, shifts, placed, is_lost}
 use Rattle.late_dummies.specs.Spots.{shift_spot, spot}
-use Rattle.late_moves.specs.Moved.{is_in, is_word, starts, is_moved, moved_block, moved_item, table_word, is_jump_word, move_covers, zeroes, place_in_move, moved_place, offset_in_move, covered_by, late_byte, late_rodata}
-use Rattle.late_moves.specs.Moves.{is_dummy, first_of_many, item_length, item_place, item_fault, last_from, items, late_source, move_source, late_from, last_place, move_place, is_move_fault, late_step_fault, is_shifted}
+use Rattle.symbols_taken.specs.of_late_moves.Moved.{is_in, is_word, starts, is_moved, moved_block, moved_item, table_word, is_jump_word, move_covers, zeroes, place_in_move, moved_place, offset_in_move, covered_by, late_byte, late_rodata}
+use Rattle.symbols_taken.specs.of_late_moves.Moves.{is_dummy, first_of_many, item_length, item_place, item_fault, last_from, items, late_source, move_source, late_from, last_place, move_place, is_move_fault, late_step_fault, is_shifted}
 use Rattle.statics_debug.specs.Entries.{tables_in, file_at, entry_at, among, lists_static, opens_scope, closes_scope, storage_code}
 use Rattle.statics_table.specs.Statics.{stored_name, count_tail, working_name, name_head, written_name, written_length, names_length, is_namesake, namesakes, static_type, static_binding}
 use Rattle.statics_table.specs.Table.{static_row, static_rows, static_in, statics_in}

@@ -1,2 +1,3 @@
+pub use Rattle.symbols_taken.proofs as of_symbols_taken
 pub mod Everything
 pub mod Examples

@@ -14,7 +14,7 @@ use Rattle.blocks_places.specs.Places.{Place}
 use Rattle.blocks_glabels.specs.Glabels.{is_glabel, glabel_size}
 use Rattle.blocks_spans.specs.Spans.{spans_of}
 use Rattle.blocks_spans.specs.Copied.{copied}
-use Rattle.late_moves.specs.Moved.{moved_place}
+use Rattle.symbols_taken.specs.of_late_moves.Moved.{moved_place}
 use Rattle.merge_labels.specs.Labels.{late_start}
 use Rattle.symbols_taken.specs.Taken.{is_placed_in, symbol_code}
 

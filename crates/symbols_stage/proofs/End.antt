@@ -31,9 +31,9 @@ use Rattle.base_buffers.specs.Parts.{part_at, KeptBefore}
 use Rattle.merge_buffers.specs.Buffers.{ROWS_AT, HOLDERS_AT, USED_AT, STATIC_AT, GLABELS_AT, LIST_AT, STEP_BUFFER, NUMBERS_AT, INDEX_BUFFER, blocks_part, ids_part, places_part, holders_part, late_step_part, used_part, statics_part, glabels_part, list_part, names_part, order_part, numbers_part, BuffersHeld}
 use Rattle.base_buffers.proofs.Buffers.{length_zeros}
 use Rattle.base_buffers.proofs.Parts.{kept_part, kept_same, kept_less, kept_then, part_long}
-use Rattle.merge_sections.specs.declared.Stage.{Stage}
-use Rattle.merge_sections.specs.Stages.{StageRead, Movable}
-use Rattle.merge_sections.proofs.Sections.{step_runs, step_start}
+use Rattle.symbols_table.specs.of_merge_sections.declared.Stage.{Stage}
+use Rattle.symbols_table.specs.of_merge_sections.Stages.{StageRead, Movable}
+use Rattle.symbols_table.proofs.of_merge_sections.Sections.{step_runs, step_start}
 use Rattle.statics_table.specs.Table.{statics_in, StaticTable}
 use Rattle.statics_walk.specs.declared.Listing.{Listing}
 use Rattle.statics_walk.specs.Walk.{statics}
@@ -42,26 +42,26 @@ use Rattle.statics_walk.proofs.Sound.{statics_sound}
 use Rattle.symbols_merge.specs.Candidates.{Candidates}
 use Rattle.symbols_merge.specs.Listed.{symbols_verdict}
 use Rattle.symbols_merge.specs.Merged.{RESULT_GROUPS, LOCAL_GROUPS, merged_count, local_count}
-use Rattle.symbols_taken.specs.Taken.{taken_verdict}
-use Rattle.symbols_taken.specs.Passed.{TakenPassed}
-use Rattle.symbols_taken.specs.Code.{used_bytes, LateIn, StepIn}
-use Rattle.symbols_taken.proofs.InHand.{step_late, taken_is}
-use Rattle.symbols_taken.proofs.Passed.{taken_passed}
-use Rattle.symbols_ids.specs.Ids.{candidates, merge_candidates}
+use Rattle.symbols_table.specs.of_symbols_taken.Taken.{taken_verdict}
+use Rattle.symbols_table.specs.of_symbols_taken.Passed.{TakenPassed}
+use Rattle.symbols_table.specs.of_symbols_taken.Code.{used_bytes, LateIn, StepIn}
+use Rattle.symbols_table.proofs.of_symbols_taken.InHand.{step_late, taken_is}
+use Rattle.symbols_table.proofs.of_symbols_taken.Passed.{taken_passed}
+use Rattle.symbols_table.specs.of_symbols_ids.Ids.{candidates, merge_candidates}
 use Rattle.symbols_rows.specs.Rows.{half_in, HoldersOf}
 use Rattle.symbols_rows.specs.Steps.{verdict_in}
-use Rattle.symbols_holders.specs.Ready.{id_count, symbols_in, HoldersReady}
+use Rattle.symbols_table.specs.of_symbols_holders.Ready.{id_count, symbols_in, HoldersReady}
 use Rattle.symbols_numbers.specs.Numbers.{Tables, HoldersFirst, order_in, group_starts}
 use Rattle.symbols_numbers.specs.Result.{NumbersOf, StartsOf}
 use Rattle.symbols_numbers.proofs.Counts.{start_few}
-use Rattle.symbols_fill.specs.declared.Filling.{Filling}
-use Rattle.symbols_fill.specs.Fill.{FillReady}
-use Rattle.symbols_fill.specs.Stage.{FillStage}
-use Rattle.symbols_fill.proofs.Candidates.{fill_ready}
-use Rattle.symbols_fill.proofs.Filled.{ids_few}
-use Rattle.symbols_chain.specs.Chain.{SymbolsNumbered}
-use Rattle.symbols_chain.proofs.Stage.{fill_stage_of}
-use Rattle.symbols_chain.proofs.Result.{chain_tables, chain_first, chain_room, chain_verdict, chain_starts, chain_order, chain_numbers}
+use Rattle.symbols_table.specs.of_symbols_fill.declared.Filling.{Filling}
+use Rattle.symbols_table.specs.of_symbols_fill.Fill.{FillReady}
+use Rattle.symbols_table.specs.of_symbols_fill.Stage.{FillStage}
+use Rattle.symbols_table.proofs.of_symbols_fill.Candidates.{fill_ready}
+use Rattle.symbols_table.proofs.of_symbols_fill.Filled.{ids_few}
+use Rattle.symbols_table.specs.of_symbols_chain.Chain.{SymbolsNumbered}
+use Rattle.symbols_table.proofs.of_symbols_chain.Stage.{fill_stage_of}
+use Rattle.symbols_table.proofs.of_symbols_chain.Result.{chain_tables, chain_first, chain_room, chain_verdict, chain_starts, chain_order, chain_numbers}
 use Rattle.symbols_table.specs.Stage.{TableStage}
 use Rattle.symbols_stage.specs.declared.Manner.{Manner}
 use Rattle.symbols_stage.specs.declared.Counts.{Counts}

@@ -21,23 +21,23 @@ use Rattle.base_buffers.specs.Parts.{part_at, KeptBefore}
 use Rattle.merge_buffers.specs.Buffers.{ROWS_AT, BLOCK_BUFFER, HOLDERS_AT, PLACE_BUFFER, USED_AT, STATIC_AT, GLABELS_AT, LIST_AT, STEP_BUFFER, NUMBERS_AT, NAMES_AT, INDEX_BUFFER, blocks_part, ids_part, places_part, late_step_part, used_part, statics_part, list_part, names_part, order_part, BuffersHeld}
 use Rattle.base_buffers.proofs.Parts.{lent, put_back, kept_part, part_long, part_lent, put_table, put_kept}
 use Rattle.merge_inputs.specs.declared.Inputs.{Inputs}
-use Rattle.merge_sections.specs.declared.Stage.{Stage}
+use Rattle.symbols_table.specs.of_merge_sections.declared.Stage.{Stage}
 use Rattle.statics_walk.specs.declared.Listing.{Listing}
 use Rattle.statics_walk.specs.Walk.{statics_fault, statics}
 use Rattle.statics_walk.specs.Code.{StaticsListed}
 use Rattle.symbols_merge.specs.Merged.{RESULT_GROUPS}
-use Rattle.symbols_taken.specs.Code.{used_bytes, LateIn, taken_in}
-use Rattle.symbols_taken.proofs.Marks.{used_within}
+use Rattle.symbols_table.specs.of_symbols_taken.Code.{used_bytes, LateIn, taken_in}
+use Rattle.symbols_table.proofs.of_symbols_taken.Marks.{used_within}
 use Rattle.symbols_glabels.specs.Words.{glabel_word, Holds, GlabelsReady}
 use Rattle.symbols_rows.specs.Rows.{halves_in, HoldersOf}
 use Rattle.symbols_rows.specs.Steps.{ids_listed, Listing as IdsListing}
-use Rattle.symbols_holders.specs.Ready.{known_in, KnownHashes, id_count, symbols_in, HoldersReady}
+use Rattle.symbols_table.specs.of_symbols_holders.Ready.{known_in, KnownHashes, id_count, symbols_in, HoldersReady}
 use Rattle.symbols_numbers.specs.Numbers.{Tables, IdRoom, order_in, group_starts, IdsNumbered}
-use Rattle.symbols_fill.specs.declared.Filling.{Filling}
-use Rattle.symbols_fill.specs.Fill.{FillReady, FilledRows}
-use Rattle.symbols_fill.proofs.Filled.{ids_few}
-use Rattle.symbols_chain.specs.Chain.{SymbolsNumbered}
-use Rattle.symbols_chain.proofs.Chain.{symbols_listed, ready_few}
+use Rattle.symbols_table.specs.of_symbols_fill.declared.Filling.{Filling}
+use Rattle.symbols_table.specs.of_symbols_fill.Fill.{FillReady, FilledRows}
+use Rattle.symbols_table.proofs.of_symbols_fill.Filled.{ids_few}
+use Rattle.symbols_table.specs.of_symbols_chain.Chain.{SymbolsNumbered}
+use Rattle.symbols_table.proofs.of_symbols_chain.Chain.{symbols_listed, ready_few}
 use Rattle.symbols_stage.specs.Stage.{SymbolsTaken, StaticsRead, GlabelsRead, IdsFilledIn, IdsListedIn, IdsHeldIn, IdRooms, OrderLeft, NumbersLeft}
 
 -- ---- 15 and 16

@@ -8,19 +8,19 @@ use Rattle.blocks_places.specs.Places.{Place}
 use Rattle.blocks_places.specs.Table.{places_in}
 use Rattle.base_buffers.specs.Parts.{part_at, KeptBefore}
 use Rattle.merge_buffers.specs.Buffers.{ROWS_AT, HOLDERS_AT, USED_AT, STATIC_AT, LIST_AT, NUMBERS_AT, ids_part, places_part, holders_part, late_step_part, statics_part, glabels_part, list_part, order_part, numbers_part}
-use Rattle.merge_sections.specs.declared.Stage.{Stage}
+use Rattle.symbols_table.specs.of_merge_sections.declared.Stage.{Stage}
 use Rattle.statics_table.specs.Table.{statics_in}
 use Rattle.statics_walk.specs.Walk.{statics}
 use Rattle.symbols_merge.specs.Merged.{RESULT_GROUPS, LOCAL_GROUPS, local_count}
-use Rattle.symbols_ids.specs.Ids.{merge_candidates}
+use Rattle.symbols_table.specs.of_symbols_ids.Ids.{merge_candidates}
 use Rattle.symbols_rows.specs.Rows.{HoldersOf}
 use Rattle.symbols_rows.specs.Steps.{verdict_in}
-use Rattle.symbols_holders.specs.Ready.{id_count, symbols_in}
+use Rattle.symbols_table.specs.of_symbols_holders.Ready.{id_count, symbols_in}
 use Rattle.symbols_numbers.specs.Numbers.{group_starts}
 use Rattle.symbols_numbers.specs.Result.{NumbersOf}
-use Rattle.symbols_fill.specs.declared.Filling.{Filling}
-use Rattle.symbols_chain.specs.declared.Numbering.{Numbering}
-use Rattle.symbols_chain.specs.Chain.{SymbolsListed, SymbolsNumbered}
+use Rattle.symbols_table.specs.of_symbols_fill.declared.Filling.{Filling}
+use Rattle.symbols_table.specs.of_symbols_chain.declared.Numbering.{Numbering}
+use Rattle.symbols_table.specs.of_symbols_chain.Chain.{SymbolsListed, SymbolsNumbered}
 use Rattle.symbols_table.specs.Stage.{TableStage}
 use Rattle.symbols_stage.specs.declared.Manner.{Manner}
 use Rattle.symbols_stage.specs.declared.Counts.{Counts}

@@ -9,19 +9,19 @@ use Rattle.elf_symbols.specs.Symbols.{symbol_count, symbol_name}
 use Rattle.blocks_places.specs.Places.{Place}
 use Rattle.base_buffers.specs.Parts.{part_at, KeptBefore}
 use Rattle.merge_buffers.specs.Buffers.{ROWS_AT, HOLDERS_AT, USED_AT, STATIC_AT, GLABELS_AT, LIST_AT, NUMBERS_AT, ids_part, holders_part, late_step_part, used_part, statics_part, glabels_part, list_part, order_part}
-use Rattle.merge_sections.specs.declared.Stage.{Stage}
+use Rattle.symbols_table.specs.of_merge_sections.declared.Stage.{Stage}
 use Rattle.statics_walk.specs.declared.Listing.{Listing}
 use Rattle.statics_walk.specs.Walk.{statics_fault, statics}
 use Rattle.statics_walk.specs.Code.{StaticsListed}
 use Rattle.symbols_merge.specs.Candidates.{Candidates}
 use Rattle.symbols_merge.specs.Merged.{RESULT_GROUPS}
-use Rattle.symbols_taken.specs.Code.{used_bytes, taken_in}
+use Rattle.symbols_table.specs.of_symbols_taken.Code.{used_bytes, taken_in}
 use Rattle.symbols_glabels.specs.Words.{glabel_word, Holds}
 use Rattle.symbols_rows.specs.Rows.{half_in, halves_in, HoldersOf}
 use Rattle.symbols_numbers.specs.Numbers.{order_in, IdsNumbered}
-use Rattle.symbols_fill.specs.declared.Filling.{Filling}
-use Rattle.symbols_fill.specs.Fill.{FilledRows}
-use Rattle.symbols_chain.specs.Chain.{SymbolsListed}
+use Rattle.symbols_table.specs.of_symbols_fill.declared.Filling.{Filling}
+use Rattle.symbols_table.specs.of_symbols_fill.Fill.{FilledRows}
+use Rattle.symbols_table.specs.of_symbols_chain.Chain.{SymbolsListed}
 
 -- 15 and 16, and the marks of used symbols
 pub record SymbolsTaken (A : List ℕ) (s : Stage) (r : Verdict) (before after : List ℕ) : Type 0 where

@@ -9,8 +9,8 @@ use Rattle.base_answers.specs.Verdicts.{also, finding_verdict}
 use Rattle.blocks_places.specs.Places.{Place}
 use Rattle.statics_walk.specs.Walk.{statics_fault}
 use Rattle.symbols_merge.specs.Listed.{symbols_verdict}
-use Rattle.symbols_taken.specs.Taken.{taken_verdict}
-use Rattle.symbols_ids.specs.Ids.{merge_candidates}
+use Rattle.symbols_table.specs.of_symbols_taken.Taken.{taken_verdict}
+use Rattle.symbols_table.specs.of_symbols_ids.Ids.{merge_candidates}
 
 module _ (o : ByteOrder) (C A : List ℕ) (P : List Place) (B : List ℕ) (mode head : ℕ) where
   unfoldable pub list_verdict : Verdict

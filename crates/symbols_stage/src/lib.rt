@@ -12,26 +12,28 @@ ghost use Rattle.elf_index.specs.Index.{SymbolIndex};
 ghost use Rattle.blocks_file.specs.Blocks.{block_count};
 ghost use Rattle.blocks_places.specs.Lines.{line_count};
 ghost use Rattle.blocks_places.specs.Table.{places_in, Laid};
-ghost use Rattle.merge_sections.specs.Stages.{StageRead, Movable};
+ghost use Rattle.symbols_table.specs.of_merge_sections.Stages.{StageRead, Movable};
 ghost use Rattle.symbols_merge.specs.Merged.{RESULT_GROUPS, LOCAL_GROUPS};
-ghost use Rattle.symbols_taken.specs.Passed.{TakenPassed};
-ghost use Rattle.symbols_taken.specs.Code.{used_bytes, LateIn, taken_in};
-ghost use Rattle.symbols_holders.specs.Ready.{symbols_in, HoldersReady};
+ghost use Rattle.symbols_table.specs.of_symbols_taken.Passed.{TakenPassed};
+ghost use Rattle.symbols_table.specs.of_symbols_taken.Code.{used_bytes, LateIn, taken_in};
+ghost use Rattle.symbols_table.specs.of_symbols_holders.Ready.{symbols_in, HoldersReady};
 ghost use Rattle.symbols_numbers.specs.Numbers.{Tables, HoldersFirst, group_starts};
-ghost use Rattle.symbols_fill.specs.Fill.{FillReady};
+ghost use Rattle.symbols_table.specs.of_symbols_fill.Fill.{FillReady};
 ghost use Rattle.base_buffers.specs.Parts.{part_at};
 ghost use Rattle.merge_buffers.specs.Buffers.{BLOCK_BUFFER, PLACE_BUFFER, STEP_BUFFER, INDEX_BUFFER, NUMBERS_AT, blocks_part, ids_part, places_part, late_step_part, used_part, statics_part, list_part, names_part, order_part, BuffersHeld};
-ghost use Rattle.symbols_chain.specs.Chain.{SymbolsNumbered};
+ghost use Rattle.symbols_table.specs.of_symbols_chain.Chain.{SymbolsNumbered};
 ghost use Rattle.symbols_stage.specs.Stage.{SymbolsTaken, StaticsRead, GlabelsRead, IdsFilledIn, IdsListedIn, IdsHeldIn, IdRooms, OrderLeft, NumbersLeft};
 ghost use Rattle.symbols_stage.specs.End.{counts_of, filling_of, NumberedEnd, ListEnd, StaticsEnd, StageEnd};
 
 use base_answers::Verdict;
 use base_scope::Finding;
 use merge_inputs::Inputs;
-use merge_sections::Stage;
 use statics_walk::Listing;
-use symbols_fill::Filling;
-use symbols_names::Sources;
+pub use symbols_table::merge_sections;
+use symbols_table::merge_sections::Stage;
+use symbols_table::symbols_fill::Filling;
+use symbols_table::symbols_names::Sources;
+use symbols_table::{symbols_chain, symbols_fill, symbols_taken};
 
 // How statics are taken over: the mode, and how many bytes it puts in front of a name.
 #[derive(Clone, Copy)]

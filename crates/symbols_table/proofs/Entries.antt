@@ -16,13 +16,13 @@ use Rattle.elf_records.specs.declared.symbol.SymbolEntry.{SymbolEntry}
 use Rattle.elf_records.specs.Symbol.{symbol_bytes}
 use Rattle.elf_records.proofs.RoundTrip.{length_symbol}
 use Rattle.statics_table.specs.Table.{statics_in}
-use Rattle.symbols_ids.specs.Entries.{finished}
-use Rattle.symbols_ids.specs.Ids.{name_of}
-use Rattle.symbols_ids.specs.Table.{null_entry}
+use Rattle.symbols_entries.specs.of_symbols_ids.Entries.{finished}
+use Rattle.symbols_entries.specs.of_symbols_ids.Ids.{name_of}
+use Rattle.symbols_entries.specs.of_symbols_ids.Table.{null_entry}
 use Rattle.symbols_rows.specs.declared.IdRow.{IdRow}
 use Rattle.symbols_rows.specs.Rows.{id_row, half_in}
 use Rattle.symbols_entries.specs.Ids.{origin_in, EntriesReady}
-use Rattle.symbols_holders.specs.Ready.{id_count}
+use Rattle.symbols_chain.specs.of_symbols_holders.Ready.{id_count}
 use Rattle.symbols_chain.specs.declared.Numbering.{Numbering}
 use Rattle.symbols_table.specs.Table.{id_at, row_entry, entry_in, symbols_table_in, InOrder, SymbolsReady}
 

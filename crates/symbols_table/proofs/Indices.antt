@@ -18,9 +18,9 @@ use Rattle.elf_check.specs.Sound.{Sound}
 use Rattle.blocks_places.specs.Places.{Place}
 use Rattle.statics_table.specs.declared.Static.{Static}
 use Rattle.statics_symbols.specs.Entries.{symbol_of_static, static_symbol}
-use Rattle.symbols_ids.specs.Entries.{finished, is_placed_a, section_a, entry_a}
-use Rattle.symbols_ids.specs.Ids.{by_origin, entry_static, entry_of}
-use Rattle.symbols_fill.proofs.Origins.{origin_own, origin_other, origin_static}
+use Rattle.symbols_entries.specs.of_symbols_ids.Entries.{finished, is_placed_a, section_a, entry_a}
+use Rattle.symbols_entries.specs.of_symbols_ids.Ids.{by_origin, entry_static, entry_of}
+use Rattle.symbols_chain.proofs.of_symbols_fill.Origins.{origin_own, origin_other, origin_static}
 
 sound_low : (count x : ℕ) → count ≤ SECTION_LIMIT → index_sound count x ≡ true → x < 65536
 unfolding index_sound

@@ -23,19 +23,19 @@ use Rattle.symbols_merge.specs.Listed.{listed, listed_at}
 use Rattle.symbols_merge.specs.Merged.{merged_count, merged_at}
 use Rattle.symbols_merge.proofs.Merged.{Taken, merged_taken}
 use Rattle.symbols_merge.proofs.Agree.{Agree, listed_agree, at_agree}
-use Rattle.symbols_ids.specs.Ids.{entry_of, candidates}
-use Rattle.symbols_ids.specs.Table.{result_entry, result_symbols}
-use Rattle.symbols_names.proofs.Names.{own_count, other_count, ids_held}
+use Rattle.symbols_entries.specs.of_symbols_ids.Ids.{entry_of, candidates}
+use Rattle.symbols_entries.specs.of_symbols_ids.Table.{result_entry, result_symbols}
+use Rattle.symbols_entries.proofs.of_symbols_names.Names.{own_count, other_count, ids_held}
 use Rattle.symbols_entries.specs.Ids.{EntriesReady}
 use Rattle.symbols_entries.proofs.Ids.{name_low, offset_low, entry_of_lem}
 use Rattle.symbols_rows.specs.Rows.{id_section, id_value, half_in}
 use Rattle.symbols_rows.proofs.Rows.{row_fields}
 use Rattle.symbols_rows.proofs.Tables.{list_long, list_at}
-use Rattle.symbols_holders.specs.Ready.{id_count, symbols_in}
+use Rattle.symbols_chain.specs.of_symbols_holders.Ready.{id_count, symbols_in}
 use Rattle.symbols_numbers.proofs.Result.{entry_is, entry_lt}
-use Rattle.symbols_fill.specs.declared.Filling.{Filling}
-use Rattle.symbols_fill.specs.Fill.{is_taken, row_of}
-use Rattle.symbols_fill.proofs.Candidates.{row_section, row_value, fill_agree}
+use Rattle.symbols_chain.specs.of_symbols_fill.declared.Filling.{Filling}
+use Rattle.symbols_chain.specs.of_symbols_fill.Fill.{is_taken, row_of}
+use Rattle.symbols_chain.proofs.of_symbols_fill.Candidates.{row_section, row_value, fill_agree}
 use Rattle.symbols_chain.specs.declared.Numbering.{Numbering}
 use Rattle.symbols_table.specs.Table.{id_at, row_entry, entry_in, symbols_table_in, InOrder, SymbolsReady}
 use Rattle.symbols_table.specs.Stage.{candidates_by, TableStage}

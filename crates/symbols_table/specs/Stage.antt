@@ -12,10 +12,10 @@ use Rattle.statics_walk.specs.Sound.{StaticsSound}
 use Rattle.symbols_merge.specs.Candidates.{Candidates}
 use Rattle.symbols_merge.specs.Merged.{merged_count}
 use Rattle.symbols_glabels.specs.Words.{glabel_word, mark_in}
-use Rattle.symbols_ids.specs.Ids.{candidates}
+use Rattle.symbols_entries.specs.of_symbols_ids.Ids.{candidates}
 use Rattle.symbols_numbers.specs.Result.{OrderOf}
-use Rattle.symbols_fill.specs.declared.Filling.{Filling}
-use Rattle.symbols_fill.specs.Stage.{FillStage}
+use Rattle.symbols_chain.specs.of_symbols_fill.declared.Filling.{Filling}
+use Rattle.symbols_chain.specs.of_symbols_fill.Stage.{FillStage}
 use Rattle.symbols_chain.specs.declared.Numbering.{Numbering}
 use Rattle.symbols_chain.specs.Chain.{SymbolsListed}
 

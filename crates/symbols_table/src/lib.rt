@@ -5,11 +5,14 @@
 
 ghost use Rattle.std.specs.Prelude.{◌≡◌, ◌+◌, ◌*◌, ◌≤◌, ◌<◌, length};
 ghost use Rattle.base_lists.specs.Windows.{spliced};
-ghost use Rattle.symbols_ids.specs.Table.{null_entry};
+ghost use Rattle.symbols_entries.specs.of_symbols_ids.Table.{null_entry};
 ghost use Rattle.symbols_table.specs.Table.{id_at, entry_in, symbols_table_in, InOrder, SymbolsReady};
 
 use elf_records::SymbolEntry;
+pub use symbols_chain;
 use symbols_chain::Numbering;
+pub use symbols_chain::{merge_sections, symbols_fill};
+pub use symbols_entries::{symbols_names, symbols_taken};
 
 // Entry 0: zeros.
 fn null_entry() -> SymbolEntry

@@ -1,3 +1,4 @@
+pub use Rattle.late_lookups.proofs as of_late_lookups
 pub mod Marks
 pub mod Sections
 pub mod Prefixes

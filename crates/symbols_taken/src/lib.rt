@@ -24,6 +24,7 @@ use base_fields::ByteOrder;
 use base_scope::Finding;
 use elf_check::View;
 use late_length::LateStep;
+pub use late_lookups;
 use late_lookups::LatePlace;
 use merge_inputs::Inputs;
 

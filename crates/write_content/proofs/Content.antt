@@ -20,9 +20,9 @@ use Rattle.elf_readers.specs.Readers.{section_count, coded_contents}
 use Rattle.blocks_places.specs.Places.{Place}
 use Rattle.blocks_spans.specs.Spans.{spans_of}
 use Rattle.blocks_spans.specs.Copied.{copied}
-use Rattle.merge_sections.specs.Sections.{result_section}
-use Rattle.merge_sections.proofs.Sections.{section_plain}
-use Rattle.symbols_chain.specs.declared.Numbering.{Numbering}
+use Rattle.symbols_table.specs.of_merge_sections.Sections.{result_section}
+use Rattle.symbols_table.proofs.of_merge_sections.Sections.{section_plain}
+use Rattle.symbols_table.specs.of_symbols_chain.declared.Numbering.{Numbering}
 use Rattle.symbols_table.specs.Table.{entry_in, symbols_table_in}
 use Rattle.carry_clash.specs.Clash.{joined_name}
 use Rattle.carry_homes.specs.declared.TableName.{TableName}

@@ -12,8 +12,8 @@ ghost use Rattle.elf_readers.specs.Bounds.{Headed};
 ghost use Rattle.elf_check.specs.View.{Viewed};
 ghost use Rattle.blocks_places.specs.Lines.{line_count};
 ghost use Rattle.blocks_places.specs.Table.{places_in};
-ghost use Rattle.merge_sections.specs.Sections.{result_section, register_bytes};
-ghost use Rattle.merge_sections.specs.Stages.{StageRead, Movable};
+ghost use Rattle.symbols_table.specs.of_merge_sections.Sections.{result_section, register_bytes};
+ghost use Rattle.symbols_table.specs.of_merge_sections.Stages.{StageRead, Movable};
 ghost use Rattle.symbols_table.specs.Table.{symbols_table_in, SymbolsReady};
 ghost use Rattle.write_content.specs.Content.{new_name_in, new_names_in, NewRows};
 
@@ -21,8 +21,10 @@ use base_fields::ByteOrder;
 use elf_check::View;
 use elf_records::SymbolEntry;
 use merge_inputs::Inputs;
-use merge_sections::Stage;
-use symbols_chain::Numbering;
+use symbols_table::merge_sections;
+use symbols_table::merge_sections::Stage;
+pub use symbols_table::symbols_chain;
+use symbols_table::symbols_chain::Numbering;
 
 // Appends the bytes of section i.
 pub fn append_contents(out: &mut [u8], at: u64, order: ByteOrder, file: &[u8], i: usize) -> u64

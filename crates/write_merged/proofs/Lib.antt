@@ -1,2 +1,3 @@
+pub use Rattle.write_planned.proofs.of_carry_stage
 pub mod Plans
 pub mod Merged

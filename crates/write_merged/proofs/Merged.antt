@@ -41,22 +41,22 @@ use Rattle.carry_homes.specs.Homes.{carried_count, carried_table, new_count, ope
 use Rattle.carry_homes.specs.declared.TableName.{TableName}
 use Rattle.carry_homes.specs.Code.{HOME_ROW, TablesListed, opened_in, home_key}
 use Rattle.carry_clash.specs.Clash.{carried_code}
-use Rattle.carry_stage.specs.Tables.{homes_part}
+use Rattle.write_planned.specs.of_carry_stage.Tables.{homes_part}
 use Rattle.carry_homes.proofs.Joins.{opened_lt, opened_is}
 use Rattle.write_image.specs.Layout.{HEADER_END, HEADING_SIZE, aligned_to, headings_at, image_length}
 use Rattle.write_object.specs.Object.{Plan, layout_of, has_place, moved_finding, object_bytes}
 use Rattle.write_object.specs.Steps.{front_with, pieces_of, headings_of}
 use Rattle.write_object.proofs.Own.{own_ident}
-use Rattle.write_plan.specs.Plan.{new_heading, merged_object}
-use Rattle.write_plan.proofs.Sections.{strtab_type, table_typed, table_not, other_holds, debug_bytes_lem}
-use Rattle.write_plan.proofs.Headers.{many_is, heading_new, content_is, type_kept, placed_typed}
-use Rattle.write_plan.proofs.Relocations.{carried_table_lem}
-use Rattle.write_plan.proofs.Fits.{WIDEST, NewWords, plan_many, plan_fits, new_fits, align_limit, own_limit as plan-own, added_limit as plan-added}
+use Rattle.write_planned.specs.of_write_plan.Plan.{new_heading, merged_object}
+use Rattle.write_planned.proofs.of_write_plan.Sections.{strtab_type, table_typed, table_not, other_holds, debug_bytes_lem}
+use Rattle.write_planned.proofs.of_write_plan.Headers.{many_is, heading_new, content_is, type_kept, placed_typed}
+use Rattle.write_planned.proofs.of_write_plan.Relocations.{carried_table_lem}
+use Rattle.write_planned.proofs.of_write_plan.Fits.{WIDEST, NewWords, plan_many, plan_fits, new_fits, align_limit, own_limit as plan-own, added_limit as plan-added}
 use Rattle.write_planned.specs.declared.Writing.{Writing}
 use Rattle.write_planned.specs.Held.{held_places, SpansOver, held_plan, held_bytes, held_own, held_names, held_name_at}
 use Rattle.write_planned.proofs.Held.{held_still}
 use Rattle.write_planned.proofs.Planned.{strings_at}
-use Rattle.write_plan.specs.Answer.{merged_answer}
+use Rattle.write_planned.specs.of_write_plan.Answer.{merged_answer}
 use Rattle.write_merged.specs.Merged.{opened_as, opened_with, plan_end, MergedReady, held_answer, held_object}
 use Rattle.write_merged.proofs.Plans.{end_inside, next_sized, plan_put, at_is, long_image, plan_written, plan_counted}
 

@@ -8,8 +8,8 @@ use Rattle.elf_records.specs.declared.section.SectionHeader.{SectionHeader}
 use Rattle.elf_readers.specs.Readers.{header, is_strtab}
 use Rattle.write_image.specs.Layout.{end_before}
 use Rattle.write_object.specs.Object.{Plan, layout_of}
-use Rattle.write_plan.specs.Plan.{merged_object}
-use Rattle.write_plan.specs.Answer.{merged_answer}
+use Rattle.write_planned.specs.of_write_plan.Plan.{merged_object}
+use Rattle.write_planned.specs.of_write_plan.Answer.{merged_answer}
 use Rattle.write_planned.specs.declared.Writing.{Writing}
 use Rattle.write_planned.specs.Held.{held_places, PlanHeld, SpansOver, held_plan}
 

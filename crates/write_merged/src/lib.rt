@@ -22,7 +22,9 @@ use base_answers::Outcome;
 use base_scope::Finding;
 use carry_homes::TableName;
 use elf_records::SectionHeader;
+pub use write_planned;
 use write_planned::Writing;
+pub use write_planned::carry_stage;
 
 // How long the table of homes is.
 const HOME_TABLE: usize = 1024;

@@ -27,7 +27,7 @@ use Rattle.blocks_places.specs.Places.{Place}
 use Rattle.statics_table.specs.Statics.{name_head}
 use Rattle.merge_kept.specs.Kept.{kept}
 use Rattle.merge_kept.proofs.Kept.{kept_le}
-use Rattle.carry_clash.specs.Clash.{is_carried, joined_section, is_misjoined, clash_at, clash_finding, is_cut}
+use Rattle.carry_entries.specs.of_carry_clash.Clash.{is_carried, joined_section, is_misjoined, clash_at, clash_finding, is_cut}
 use Rattle.carry_entries.specs.Entries.{Carrying, is_kept, carried_entry, carried_bytes}
 use Rattle.carry_entries.specs.Carried.{carrying_c, carrying_a}
 use Rattle.carry_homes.specs.Homes.{carried_count, carried_table, has_home, home_of, joined_bytes}

@@ -35,8 +35,8 @@ use Rattle.merge_sections.proofs.Sections.{section_length, registers_length}
 use Rattle.merge_kept.specs.Kept.{kept}
 use Rattle.merge_kept.proofs.Kept.{kept_le}
 use Rattle.symbols_numbers.proofs.Counts.{grouped_few}
-use Rattle.symbols_taken.specs.Used.{is_section_of, code_of, is_source_table}
-use Rattle.carry_clash.specs.Clash.{carried_code, is_carried}
+use Rattle.carry_entries.specs.of_symbols_taken.Used.{is_section_of, code_of, is_source_table}
+use Rattle.carry_entries.specs.of_carry_clash.Clash.{carried_code, is_carried}
 use Rattle.carry_entries.specs.Entries.{carried_bytes}
 use Rattle.carry_entries.specs.Carried.{carrying_c, carrying_a}
 use Rattle.carry_homes.specs.Homes.{carried_rank, CARRIED_RANKS, carried_tables, carried_count, carried_table, new_count, opened_by, home_of, joined_bytes}

@@ -24,7 +24,7 @@ use Rattle.elf_check.specs.Sound.{Sound}
 use Rattle.blocks_places.specs.Places.{Place}
 use Rattle.merge_kept.specs.Kept.{kept}
 use Rattle.merge_kept.proofs.Kept.{kept_le, strings_kept}
-use Rattle.carry_clash.specs.Clash.{joined_name, carried_code}
+use Rattle.carry_entries.specs.of_carry_clash.Clash.{joined_name, carried_code}
 use Rattle.carry_homes.specs.Homes.{carried_table, home_name, new_count, opened_by, new_name}
 use Rattle.carry_homes.proofs.Names.{by_code}
 use Rattle.carry_homes.proofs.Joins.{goal_lines, opened_lt}

@@ -37,9 +37,9 @@ use Rattle.symbols_merge.specs.Listed.{listed}
 use Rattle.symbols_merge.specs.Merged.{LOCAL_GROUPS, is_merged, group_at_position, merged_count, local_count}
 use Rattle.symbols_numbers.proofs.Counts.{grouped_few}
 use Rattle.symbols_numbers.proofs.Result.{listed_few, merged_few}
-use Rattle.symbols_ids.specs.Ids.{first_a, first_static, candidates, merge_candidates}
-use Rattle.symbols_ids.specs.Table.{result_entry, result_symbols}
-use Rattle.carry_clash.specs.Clash.{joined_name, carried_code}
+use Rattle.carry_entries.specs.of_symbols_ids.Ids.{first_a, first_static, candidates, merge_candidates}
+use Rattle.carry_entries.specs.of_symbols_ids.Table.{result_entry, result_symbols}
+use Rattle.carry_entries.specs.of_carry_clash.Clash.{joined_name, carried_code}
 use Rattle.carry_entries.specs.Entries.{Carrying, is_kept, kept_count, carried_bytes}
 use Rattle.carry_entries.proofs.Entries.{carried_long}
 use Rattle.carry_homes.specs.Homes.{carried_table, home_name, new_count, opened_by, new_name}

@@ -24,13 +24,13 @@ use Rattle.statics_walk.specs.Walk.{statics}
 use Rattle.statics_walk.specs.Sound.{StaticsSound}
 use Rattle.statics_walk.proofs.Sound.{statics_sound}
 use Rattle.statics_symbols.specs.Entries.{symbol_of_static, static_symbol}
-use Rattle.symbols_ids.specs.Entries.{finished, entry_a}
-use Rattle.symbols_taken.specs.Taken.{is_taken_c, is_taken_a}
+use Rattle.carry_entries.specs.of_symbols_ids.Entries.{finished, entry_a}
+use Rattle.carry_entries.specs.of_symbols_taken.Taken.{is_taken_c, is_taken_a}
 use Rattle.symbols_merge.specs.Candidates.{Candidates}
 use Rattle.symbols_merge.specs.Merged.{merged_count, merged_at}
 use Rattle.symbols_merge.proofs.Merged.{merged_taken}
-use Rattle.symbols_ids.specs.Ids.{first_a, first_static, by_origin, entry_static, entry_of, candidates, merge_candidates}
-use Rattle.symbols_ids.specs.Table.{null_entry, result_entry}
+use Rattle.carry_entries.specs.of_symbols_ids.Ids.{first_a, first_static, by_origin, entry_static, entry_of, candidates, merge_candidates}
+use Rattle.carry_entries.specs.of_symbols_ids.Table.{null_entry, result_entry}
 use Rattle.write_strings.specs.Strings.{result_strings}
 use Rattle.write_strings.proofs.Names.{Full, name_of_c, end_of_c, name_of_a, end_of_a, name_of_static, end_of_static}
 use Rattle.write_object.specs.Object.{moved_finding}

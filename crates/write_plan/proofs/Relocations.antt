@@ -26,9 +26,9 @@ use Rattle.elf_check.specs.Sound.{Sound}
 use Rattle.blocks_places.specs.Places.{Place}
 use Rattle.merge_kept.specs.Kept.{kept}
 use Rattle.merge_kept.proofs.Kept.{kept_le}
-use Rattle.symbols_taken.specs.Used.{is_source_table}
-use Rattle.symbols_taken.proofs.Sections.{table_kind}
-use Rattle.carry_clash.specs.Clash.{carried_code, is_carried, clash_finding}
+use Rattle.carry_entries.specs.of_symbols_taken.Used.{is_source_table}
+use Rattle.carry_entries.proofs.of_symbols_taken.Sections.{table_kind}
+use Rattle.carry_entries.specs.of_carry_clash.Clash.{carried_code, is_carried, clash_finding}
 use Rattle.carry_homes.specs.Homes.{carried_count, carried_table, has_home, new_count, opened_by, home_of}
 use Rattle.carry_homes.proofs.Tables.{carried_lt, carried_is}
 use Rattle.carry_homes.proofs.Joins.{home_there, home_new, there_lt, home_kind, home_lt, new_kind, opened_lt}

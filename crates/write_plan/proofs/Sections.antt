@@ -25,11 +25,11 @@ use Rattle.statics_table.specs.declared.Static.{Static}
 use Rattle.statics_table.specs.Statics.{name_head}
 use Rattle.statics_entry.specs.Entry.{nth}
 use Rattle.statics_walk.specs.Walk.{statics}
-use Rattle.symbols_ids.specs.Table.{result_symbols}
+use Rattle.carry_entries.specs.of_symbols_ids.Table.{result_symbols}
 use Rattle.write_strings.specs.Strings.{strings_below, result_strings}
 use Rattle.merge_kept.specs.Kept.{kept}
 use Rattle.merge_kept.proofs.Kept.{other_stays, stays_kept, symtab_kept, strings_kept}
-use Rattle.symbols_taken.specs.Used.{is_section_of, code_of}
+use Rattle.carry_entries.specs.of_symbols_taken.Used.{is_section_of, code_of}
 use Rattle.carry_homes.specs.Homes.{new_count}
 use Rattle.write_plan.specs.Plan.{new_names, is_planned_table, table_bytes, own_bytes, added_names, planned_bytes}
 

@@ -29,8 +29,8 @@ use Rattle.statics_walk.specs.Walk.{statics}
 use Rattle.merge_kept.specs.Kept.{kept}
 use Rattle.merge_kept.proofs.Kept.{symtab_kept, strings_kept}
 use Rattle.symbols_merge.specs.Merged.{merged_count, local_count}
-use Rattle.symbols_ids.specs.Ids.{merge_candidates}
-use Rattle.symbols_ids.specs.Table.{result_entry, result_symbols}
+use Rattle.carry_entries.specs.of_symbols_ids.Ids.{merge_candidates}
+use Rattle.carry_entries.specs.of_symbols_ids.Table.{result_entry, result_symbols}
 use Rattle.write_strings.specs.Strings.{result_strings}
 use Rattle.write_object.specs.Object.{Plan, has_place, written_offset, written_size, written_content, moved_finding}
 use Rattle.write_object.specs.Steps.{heading_with}

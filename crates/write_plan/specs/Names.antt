@@ -6,7 +6,7 @@ use Rattle.elf_symbols.specs.Symbols.{symbol_name}
 use Rattle.statics_table.specs.declared.Static.{Static}
 use Rattle.statics_table.specs.Statics.{written_name}
 use Rattle.statics_entry.specs.Entry.{nth}
-use Rattle.symbols_ids.specs.Ids.{by_origin}
+use Rattle.carry_entries.specs.of_symbols_ids.Ids.{by_origin}
 
 -- of id i
 unfoldable pub name_written : ByteOrder → List ℕ → List ℕ → ℕ → List ℕ → List Static → ℕ → List ℕ

@@ -16,10 +16,10 @@ use Rattle.statics_walk.specs.Walk.{statics}
 use Rattle.merge_sections.specs.Sections.{result_section, register_bytes}
 use Rattle.merge_kept.specs.Kept.{kept}
 use Rattle.symbols_merge.specs.Merged.{local_count}
-use Rattle.symbols_taken.specs.Used.{is_section_of, code_of}
-use Rattle.symbols_ids.specs.Ids.{merge_candidates}
-use Rattle.symbols_ids.specs.Table.{result_symbols}
-use Rattle.carry_clash.specs.Clash.{carried_code}
+use Rattle.carry_entries.specs.of_symbols_taken.Used.{is_section_of, code_of}
+use Rattle.carry_entries.specs.of_symbols_ids.Ids.{merge_candidates}
+use Rattle.carry_entries.specs.of_symbols_ids.Table.{result_symbols}
+use Rattle.carry_entries.specs.of_carry_clash.Clash.{carried_code}
 use Rattle.carry_entries.specs.Entries.{carried_bytes}
 use Rattle.carry_entries.specs.Carried.{carrying_c, carrying_a}
 use Rattle.carry_homes.specs.Homes.{carried_table, new_count, opened_by, new_name, joined_bytes}

@@ -14,8 +14,8 @@ use Rattle.statics_table.specs.Table.{statics_in}
 use Rattle.statics_walk.specs.Walk.{statics}
 use Rattle.merge_buffers.specs.Buffers.{NUMBERS_AT, SPANS_AT, blocks_part, ids_part, places_part, late_step_part, statics_part, glabels_part, list_part, order_part}
 use Rattle.base_buffers.proofs.Parts.{part_long, kept_same}
-use Rattle.merge_sections.specs.Sections.{result_section}
-use Rattle.merge_sections.specs.Stages.{StageRead, Movable}
+use Rattle.write_plan.specs.of_merge_sections.Sections.{result_section}
+use Rattle.write_plan.specs.of_merge_sections.Stages.{StageRead, Movable}
 use Rattle.symbols_merge.specs.Candidates.{Candidates}
 use Rattle.symbols_ids.specs.Ids.{candidates, merge_candidates}
 use Rattle.symbols_ids.specs.Table.{result_symbols}
@@ -23,12 +23,12 @@ use Rattle.symbols_taken.specs.Used.{code_of}
 use Rattle.symbols_taken.specs.Code.{code_in}
 use Rattle.symbols_taken.proofs.Sections.{code_is}
 use Rattle.symbols_numbers.proofs.Result.{listed_few, merged_few}
-use Rattle.symbols_fill.specs.declared.Filling.{Filling}
-use Rattle.symbols_chain.specs.declared.Numbering.{Numbering}
-use Rattle.symbols_table.specs.Table.{symbols_table_in, SymbolsReady}
-use Rattle.symbols_table.specs.Stage.{candidates_by}
-use Rattle.symbols_table.proofs.Table.{symbols_ready, symbols_table}
-use Rattle.symbols_stage.specs.End.{filling_of, numbering_by}
+use Rattle.carry_stage.specs.of_symbols_fill.declared.Filling.{Filling}
+use Rattle.write_content.specs.of_symbols_chain.declared.Numbering.{Numbering}
+use Rattle.write_content.specs.of_symbols_table.Table.{symbols_table_in, SymbolsReady}
+use Rattle.write_content.specs.of_symbols_table.Stage.{candidates_by}
+use Rattle.write_content.proofs.of_symbols_table.Table.{symbols_ready, symbols_table}
+use Rattle.carry_stage.specs.of_symbols_stage.End.{filling_of, numbering_by}
 use Rattle.write_strings.specs.Strings.{result_strings}
 use Rattle.write_planned.specs.declared.Writing.{Writing}
 use Rattle.write_planned.specs.Held.{held_places, held_symbols, held_strings, PlanHeld, SpansOver}

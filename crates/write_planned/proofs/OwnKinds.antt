@@ -20,7 +20,7 @@ use Rattle.elf_check.proofs.Views.{view_section, view_has}
 use Rattle.blocks_places.specs.Places.{Place}
 use Rattle.statics_table.specs.Statics.{name_head}
 use Rattle.statics_walk.specs.Walk.{statics}
-use Rattle.merge_sections.specs.Sections.{result_section, register_bytes}
+use Rattle.write_plan.specs.of_merge_sections.Sections.{result_section, register_bytes}
 use Rattle.symbols_taken.specs.Used.{is_section_of, code_of}
 use Rattle.symbols_taken.specs.Code.{code_in}
 use Rattle.symbols_taken.proofs.Sections.{code_is}

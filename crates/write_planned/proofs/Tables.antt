@@ -14,17 +14,17 @@ use Rattle.base_scope.specs.Limits.{FILE_LIMIT}
 use Rattle.elf_readers.specs.Readers.{section_count, coded_contents}
 use Rattle.elf_relocations.specs.Relocations.{is_table}
 use Rattle.merge_buffers.specs.Buffers.{late_step_part, numbers_part}
-use Rattle.merge_sections.specs.declared.Stage.{Stage}
+use Rattle.write_plan.specs.of_merge_sections.declared.Stage.{Stage}
 use Rattle.merge_kept.specs.Kept.{kept}
 use Rattle.merge_kept.proofs.Kept.{kept_le}
 use Rattle.statics_table.specs.Statics.{name_head}
 use Rattle.symbols_taken.proofs.Sections.{table_kind}
 use Rattle.symbols_taken.specs.Used.{is_source_table}
 use Rattle.carry_clash.specs.Clash.{carried_code, is_carried}
-use Rattle.carry_entries.specs.declared.Side.{Side}
-use Rattle.carry_entries.specs.Entries.{Carrying, carried_bytes}
-use Rattle.carry_entries.specs.Carried.{carrying_c, carrying_a}
-use Rattle.carry_entries.specs.Code.{carrying_in, EntriesRead}
+use Rattle.carry_stage.specs.of_carry_entries.declared.Side.{Side}
+use Rattle.carry_stage.specs.of_carry_entries.Entries.{Carrying, carried_bytes}
+use Rattle.carry_stage.specs.of_carry_entries.Carried.{carrying_c, carrying_a}
+use Rattle.carry_stage.specs.of_carry_entries.Code.{carrying_in, EntriesRead}
 use Rattle.carry_homes.specs.declared.Homes.{Homes}
 use Rattle.carry_homes.specs.Homes.{carried_count, carried_table, joined_bytes}
 use Rattle.carry_homes.specs.Code.{HomesFound}

@@ -7,11 +7,11 @@ use Rattle.blocks_places.specs.Places.{Place}
 use Rattle.blocks_places.specs.Table.{places_in}
 use Rattle.base_buffers.specs.Parts.{KeptBefore}
 use Rattle.merge_buffers.specs.Buffers.{SPANS_AT, blocks_part, places_part, late_step_part, BuffersHeld}
-use Rattle.merge_sections.specs.Stages.{StageRead, Movable}
+use Rattle.write_plan.specs.of_merge_sections.Stages.{StageRead, Movable}
 use Rattle.statics_table.specs.Statics.{name_head}
 use Rattle.statics_walk.specs.Walk.{statics}
 use Rattle.symbols_ids.specs.Table.{result_symbols}
-use Rattle.symbols_stage.specs.End.{SymbolsHeld}
+use Rattle.carry_stage.specs.of_symbols_stage.End.{SymbolsHeld}
 use Rattle.carry_stage.specs.Tables.{text_spans_part}
 use Rattle.carry_stage.specs.Carry.{CarryHeld}
 use Rattle.write_strings.specs.Strings.{result_strings}

@@ -10,7 +10,7 @@ use Rattle.elf_check.specs.View.{section_in, has_in}
 use Rattle.blocks_places.specs.Places.{Place}
 use Rattle.statics_table.specs.Statics.{name_head}
 use Rattle.statics_walk.specs.Walk.{statics}
-use Rattle.merge_sections.specs.Sections.{result_section, register_bytes}
+use Rattle.write_plan.specs.of_merge_sections.Sections.{result_section, register_bytes}
 use Rattle.symbols_taken.specs.Used.{is_section_of, code_of}
 use Rattle.symbols_ids.specs.Table.{result_symbols}
 use Rattle.write_strings.specs.Strings.{result_strings}

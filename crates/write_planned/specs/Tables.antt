@@ -5,9 +5,9 @@ use Rattle.base_lists.specs.Ranges.{pick_list}
 use Rattle.base_scope.specs.Limits.{FILE_LIMIT}
 use Rattle.elf_readers.specs.Readers.{section_count}
 use Rattle.elf_relocations.specs.Relocations.{is_table}
-use Rattle.merge_sections.specs.declared.Stage.{Stage}
-use Rattle.carry_entries.specs.Entries.{carried_bytes}
-use Rattle.carry_entries.specs.Code.{carrying_in, EntriesRead}
+use Rattle.write_plan.specs.of_merge_sections.declared.Stage.{Stage}
+use Rattle.carry_stage.specs.of_carry_entries.Entries.{carried_bytes}
+use Rattle.carry_stage.specs.of_carry_entries.Code.{carrying_in, EntriesRead}
 use Rattle.carry_stage.specs.declared.Carry.{Carry}
 use Rattle.carry_stage.specs.Carry.{side_of_c, side_of_a}
 use Rattle.write_tables.specs.Tables.{joined_in, TableRows}

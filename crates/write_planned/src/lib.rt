@@ -11,10 +11,10 @@ ghost use Rattle.elf_readers.specs.Readers.{section_count};
 ghost use Rattle.elf_readers.specs.Bounds.{Headed};
 ghost use Rattle.elf_relocations.specs.Relocations.{is_table};
 ghost use Rattle.elf_check.specs.View.{Viewed};
-ghost use Rattle.merge_sections.specs.Sections.{result_section};
+ghost use Rattle.write_plan.specs.of_merge_sections.Sections.{result_section};
 ghost use Rattle.merge_kept.specs.Kept.{kept};
 ghost use Rattle.symbols_taken.specs.Used.{code_of};
-ghost use Rattle.symbols_stage.specs.End.{numbering_by};
+ghost use Rattle.carry_stage.specs.of_symbols_stage.End.{numbering_by};
 ghost use Rattle.write_plan.specs.Plan.{new_names};
 ghost use Rattle.write_planned.specs.Held.{held_places, PlanHeld, SpansOver, held_is_table, held_table, held_symbols, held_strings, held_own, held_names, held_bytes, held_plan, held_name_at};
 ghost use Rattle.write_planned.specs.OwnKinds.{is_registers_in, coded_kind, own_kind};
@@ -22,12 +22,13 @@ ghost use Rattle.write_planned.specs.Headings.{with_info};
 ghost use Rattle.write_planned.specs.Tables.{kept_table_in, joined_table_in, KeptRead, JoinedRead};
 
 use base_fields::ByteOrder;
-use carry_stage::Carry;
+pub use carry_stage;
+use carry_stage::symbols_stage::{Counts, Manner};
+use carry_stage::{Carry, carry_entries, symbols_stage};
 use elf_check::View;
 use elf_records::SectionHeader;
-use merge_sections::Stage;
-use symbols_chain::Numbering;
-use symbols_stage::{Counts, Manner};
+use write_content::symbols_chain::Numbering;
+use write_plan::merge_sections::Stage;
 
 // How long the table of homes is.
 const HOME_TABLE: usize = 1024;

@@ -2,7 +2,7 @@
 use mathlib.Core.Path.{refl}
 use lib.ListN.{length}
 use Rattle.base_answers.proofs.Answered.{answered_as, answered_refused}
-use Rattle.write_planned.specs.Held.{held_places}
+use Rattle.write_merged.specs.of_write_planned.Held.{held_places}
 use Rattle.merge_verdict.proofs.Accepted.{answer_10, answer_unclashed}
 use borrow.Author.Rules.{rules}
 use Rattle.merge_call.proofs.merge_carried.Statement.{statement}

@@ -1,6 +1,6 @@
 -- The index of A's symbols stands in its buffer for 11 to 13 and, where none refuses, for the late step and what follows. Assumes nothing.
 use mathlib.Core.Path.{refl, ◌∙◌}
-use Rattle.write_planned.specs.Held.{held_places}
+use Rattle.write_merged.specs.of_write_planned.Held.{held_places}
 use Rattle.merge_buffers.specs.Buffers.{blocks_part, places_part}
 use lib.ListN.{length}
 use Rattle.base_answers.proofs.Answered.{answered_as, answered_refused}

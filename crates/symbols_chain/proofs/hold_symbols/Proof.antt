@@ -1,6 +1,6 @@
 -- The list is indexed, and its names are held. Assumes nothing.
 use borrow.Author.Rules.{rules}
-use Rattle.symbols_holders.proofs.Holders.{list_held}
+use Rattle.symbols_fill.proofs.of_symbols_holders.Holders.{list_held}
 use Rattle.symbols_chain.proofs.Chain.{ready_few}
 use Rattle.symbols_chain.proofs.hold_symbols.Statement.{statement}
 use Rattle.symbols_chain.proofs.hold_symbols.Tie as tie

@@ -1,5 +1,5 @@
 -- Both tests. Assumes nothing.
-use Rattle.symbols_taken.specs.Taken.{is_placed_in}
+use Rattle.symbols_holders.specs.of_symbols_taken.Taken.{is_placed_in}
 use borrow.Author.Rules.{rules}
 use Rattle.symbols_fill.proofs.is_placed.Statement.{statement}
 use Rattle.symbols_fill.proofs.is_placed.Tie as tie

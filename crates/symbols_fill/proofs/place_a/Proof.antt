@@ -2,7 +2,7 @@
 use Rattle.symbols_fill.proofs.Places.{place_moved, place_kept, index_lt}
 use Rattle.elf_symbols.proofs.Symbols.{table_at}
 use Rattle.elf_check.proofs.Views.{view_table}
-use Rattle.symbols_taken.proofs.Faults.{target_low}
+use Rattle.symbols_holders.proofs.of_symbols_taken.Faults.{target_low}
 use native.Mathlib.Omega.{arith}
 use mathlib.Core.Path.{sym, ◌∙◌}
 use borrow.Author.Rules.{rules}

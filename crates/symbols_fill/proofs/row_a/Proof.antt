@@ -1,8 +1,8 @@
 -- By the test whether it is taken. Assumes nothing.
 use Rattle.elf_symbols.proofs.Symbols.{table_at}
 use Rattle.elf_check.proofs.Views.{view_table}
-use Rattle.symbols_names.specs.Names.{kind_of}
-use Rattle.symbols_names.proofs.Names.{name_read}
+use Rattle.symbols_holders.specs.of_symbols_names.Names.{kind_of}
+use Rattle.symbols_holders.proofs.of_symbols_names.Names.{name_read}
 use Rattle.symbols_fill.specs.Fill.{row_a}
 use Rattle.symbols_fill.proofs.Origins.{row_taken, row_none, taken_fits, none_fits}
 use mathlib.Core.Path.{sym, ap, ◌∙◌}

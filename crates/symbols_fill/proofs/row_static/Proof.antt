@@ -1,5 +1,5 @@
 -- Each field is its call's answer. Assumes nothing.
-use Rattle.symbols_names.specs.Names.{kind_of}
+use Rattle.symbols_holders.specs.of_symbols_names.Names.{kind_of}
 use Rattle.statics_table.specs.declared.Static.{Static}
 use Rattle.statics_table.specs.Statics.{working_name}
 use Rattle.symbols_fill.specs.Fill.{row_static}

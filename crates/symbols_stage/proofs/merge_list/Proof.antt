@@ -1,7 +1,7 @@
 -- The rows and the list, then the holders, then the numbers. Assumes nothing.
 use native.Mathlib.Omega.{arith}
 use Rattle.symbols_stage.proofs.End.{list_hold, list_number, list_end}
-use Rattle.symbols_fill.proofs.Filled.{ids_few}
+use Rattle.symbols_table.proofs.of_symbols_fill.Filled.{ids_few}
 use borrow.Author.Rules.{rules}
 use Rattle.symbols_stage.proofs.merge_list.Statement.{statement}
 use Rattle.symbols_stage.proofs.merge_list.Tie as tie

@@ -1,6 +1,6 @@
 -- Zeros. Assumes nothing.
 use mathlib.Core.Path.{refl}
-use Rattle.symbols_ids.specs.Table.{null_entry}
+use Rattle.symbols_entries.specs.of_symbols_ids.Table.{null_entry}
 use Rattle.symbols_table.proofs.null_entry.Statement.{statement}
 use Rattle.symbols_table.proofs.null_entry.Tie as tie
 

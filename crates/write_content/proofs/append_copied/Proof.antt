@@ -6,7 +6,7 @@ use Rattle.base_lists.proofs.Written.{written_copy, written_short}
 use Rattle.blocks_places.specs.Lines.{line_count}
 use Rattle.blocks_places.specs.Table.{places_in}
 use Rattle.elf_readers.proofs.Readers.{coded_short}
-use Rattle.merge_sections.proofs.Sections.{section_length}
+use Rattle.symbols_table.proofs.of_merge_sections.Sections.{section_length}
 use borrow.Author.Rules.{rules}
 use Rattle.write_content.proofs.append_copied.Statement.{statement}
 use Rattle.write_content.proofs.append_copied.Tie as tie

@@ -5,7 +5,7 @@ use lib.ListN.{length}
 use Rattle.base_lists.proofs.Written.{written_copy, written_short}
 use Rattle.base_scope.specs.Codes.{REGINFO}
 use Rattle.elf_readers.proofs.Readers.{coded_short}
-use Rattle.merge_sections.proofs.Sections.{registers_length}
+use Rattle.symbols_table.proofs.of_merge_sections.Sections.{registers_length}
 use borrow.Author.Rules.{rules}
 use Rattle.write_content.proofs.append_registers.Statement.{statement}
 use Rattle.write_content.proofs.append_registers.Tie as tie

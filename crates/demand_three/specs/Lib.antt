@@ -1,0 +1,1 @@
+pub use Rattle.demand_bytes.specs.of_merge_verdict
