@@ -1,5 +1,5 @@
-// What the programs that run drafts share: room for files and texts, lengths in front of a job's bytes, the call with its working buffers, and how
-// an answer is printed.
+// What the programs share: room for files and texts, and reading them; lengths in front of a job's bytes; the draft with its working buffers; and how an
+// answer is printed.
 #![tactic(auto)]
 
 ghost use Rattle.std.specs.Prelude.{◌<◌, ◌≤◌, length, IfOk};
