@@ -2,67 +2,61 @@
 #![tactic(auto)]
 
 use elf_check::Checked;
-use libc::STDOUT_FILENO;
+use std::alloc::{AllocError, Global};
+use std::fs::File;
+use std::io::Read;
+use std::rt::Files;
+use std::{env, io};
 
 // A byte more than the largest file that document 01 takes, so that a longer one is seen to be longer.
 const ROOM: usize = base_scope::FILE_LIMIT + 1;
 
-fn print_refusal(number: u32, place: usize) {
-    io::write_all(STDOUT_FILENO, b"refused ");
-    io::print_decimal(STDOUT_FILENO, number as u64);
-    io::write_all(STDOUT_FILENO, b" ");
-    io::print_decimal(STDOUT_FILENO, place as u64);
+fn print_refusal(rt: &impl Print, number: u32, place: usize) -> io::Result<()> {
+    print!(rt; "refused {number} {place}")
 }
 
-fn print_answer(answer: Checked) {
+fn print_answer(rt: &impl Print, answer: Checked) -> io::Result<()> {
     match answer {
-        Checked::Accepted => {
-            io::write_all(STDOUT_FILENO, b"accepted");
-        }
-        Checked::Refused(number, place) => {
-            print_refusal(number, place);
-        }
+        Checked::Accepted => print!(rt; "accepted"),
+        Checked::Refused(number, place) => print_refusal(rt, number, place),
     }
 }
 
-fn check_read(fd: i32, file: &mut [u8]) {
-    let n = io::read_full(fd, file);
-    print_answer(elf_check::check(&file[..n]));
+fn check_read(rt: &impl Print, input: &mut impl Read, file: &mut Vec<u8>) -> io::Result<()> {
+    input.take(ROOM as u64).read_to_end(file)?;
+    print_answer(rt, elf_check::check(file))
 }
 
-fn room() -> [u8; ROOM] {
-    [0u8; ROOM]
+// Room for a file, with nothing in it yet.
+fn room(alloc: Global) -> Result<Vec<u8>, AllocError> {
+    Vec::with_capacity(alloc, ROOM)
 }
 
-fn check_open(fd: i32) {
-    let mut file = room();
-    check_read(fd, &mut file);
+fn check_open(rt: &(impl Print + AllocGlobal), input: &mut impl Read) -> io::Result<()> {
+    let mut file = room(rt.alloc())?;
+    check_read(rt, input, &mut file)
 }
 
-fn check_file(name: &[u8]) {
-    let fd = os::open_read(name);
-    if fd < 0 {
-        os::fail(name);
-        return;
+fn check_file(
+    rt: &(impl Print + AllocGlobal),
+    name: &str,
+    input: &mut impl Read,
+) -> io::Result<()> {
+    print!(rt; "{name}: ")?;
+    check_open(rt, input)?;
+    println!(rt; "")
+}
+
+fn check_argument(rt: &(impl Files + Print + Eprint + AllocGlobal), name: &str) -> io::Result<()> {
+    match File::open(rt, name) {
+        Ok(mut input) => check_file(rt, name, &mut input),
+        Err(e) => eprintln!(rt; "{name}: {e}"),
     }
-    io::write_all(STDOUT_FILENO, name);
-    io::write_all(STDOUT_FILENO, b": ");
-    check_open(fd);
-    libc::close(fd);
-    io::write_all(STDOUT_FILENO, b"\n");
 }
 
-fn check_argument(i: usize) {
-    let mut name = io::buffer();
-    let n = os::arg(i, &mut name);
-    check_file(&name[..n]);
-}
-
-fn main() {
-    let n = os::arg_count();
-    let mut i: usize = 1;
-    while i < n {
-        check_argument(i);
-        i += 1;
+fn main(rt: HostRuntime) -> io::Result<()> {
+    for name in env::args(&rt)?.skip(1) {
+        check_argument(&rt, &name)?;
     }
+    Ok(())
 }

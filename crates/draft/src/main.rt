@@ -3,47 +3,55 @@
 // block file.
 #![tactic(auto)]
 
-use libc::STDOUT_FILENO;
+use std::fs::File;
+use std::io::Read;
+use std::{env, io};
 
-fn draft_parts(compiled: &[u8], prelude: &[u8], blocks: &[u8], out: &mut [u8]) {
+fn draft_parts(
+    rt: &impl Print,
+    compiled: &[u8],
+    prelude: &[u8],
+    blocks: &[u8],
+    out: &mut [u8],
+) -> io::Result<()> {
     let r = prog_cases::run_draft(compiled, prelude, blocks, out);
     if r.number == 0 {
-        prog_cases::print_front(out, r.length);
+        prog_cases::print_front(rt, out, r.length)
     } else {
-        prog_cases::print_refusal(r);
+        prog_cases::print_refusal(rt, r)
     }
 }
 
-fn draft_case(case: &[u8], out: &mut [u8]) {
+fn draft_case(rt: &impl Print, case: &[u8], out: &mut [u8]) -> io::Result<()> {
     let a = 12 + prog_cases::length_at(case, 0);
     let b = a + prog_cases::length_at(case, 4);
     let e = b + prog_cases::length_at(case, 8);
     if e > case.len() {
-        io::write_all(STDOUT_FILENO, b"the case is cut short\n");
-        return;
+        return println!(rt; "the case is cut short");
     }
-    draft_parts(&case[12..a], &case[a..b], &case[b..e], out);
+    draft_parts(rt, &case[12..a], &case[a..b], &case[b..e], out)
 }
 
-fn draft_read(fd: i32, case: &mut [u8], out: &mut [u8]) {
-    let n = io::read_full(fd, case);
-    draft_case(&case[..n], out);
+fn draft_read(
+    rt: &impl Print,
+    file: &mut impl Read,
+    case: &mut [u8],
+    out: &mut [u8],
+) -> io::Result<()> {
+    let n = prog_cases::read_full(file, case)?;
+    draft_case(rt, &case[..n], out)
 }
 
-fn draft_open(fd: i32) {
+fn draft_open(rt: &impl Print, file: &mut impl Read) -> io::Result<()> {
     let mut case = prog_cases::room();
     let mut out = prog_cases::room();
-    draft_read(fd, &mut case, &mut out);
+    draft_read(rt, file, &mut case, &mut out)
 }
 
-fn main() {
-    let mut name = io::buffer();
-    let n = os::arg(1, &mut name);
-    let fd = os::open_read(&name[..n]);
-    if fd < 0 {
-        os::fail(&name[..n]);
-        return;
+fn main(rt: HostRuntime) -> io::Result<()> {
+    let name = env::args(&rt)?.nth(1).unwrap_or(String::new(rt.alloc()));
+    match File::open(&rt, &name) {
+        Ok(mut file) => draft_open(&rt, &mut file),
+        Err(e) => eprintln!(rt; "{name}: {e}"),
     }
-    draft_open(fd);
-    libc::close(fd);
 }

@@ -3,92 +3,102 @@
 // the first three. The list is the file that the first argument names.
 #![tactic(auto)]
 
-use libc::STDOUT_FILENO;
+use std::fs::File;
+use std::io::Read;
+use std::{env, io};
 
-fn print_accepted(out: &[u8], length: u64) {
-    io::write_all(STDOUT_FILENO, b"accepted ");
-    io::print_decimal(STDOUT_FILENO, length);
-    io::write_all(STDOUT_FILENO, b"\n");
-    prog_cases::print_front(out, length);
+fn print_accepted(rt: &impl Print, out: &[u8], length: u64) -> io::Result<()> {
+    println!(rt; "accepted {length}")?;
+    prog_cases::print_front(rt, out, length)
 }
 
-fn draft_parts(compiled: &[u8], prelude: &[u8], blocks: &[u8], out: &mut [u8]) {
+fn draft_parts(
+    rt: &impl Print,
+    compiled: &[u8],
+    prelude: &[u8],
+    blocks: &[u8],
+    out: &mut [u8],
+) -> io::Result<()> {
     let r = prog_cases::run_draft(compiled, prelude, blocks, out);
     if r.number == 0 {
-        print_accepted(out, r.length);
+        print_accepted(rt, out, r.length)
     } else {
-        prog_cases::print_refusal(r);
+        prog_cases::print_refusal(rt, r)
     }
 }
 
 // Runs a job whose parts end at a, b and e of the bytes read, with so much room in the output.
-fn run_parts(job: &[u8], a: usize, b: usize, e: usize, out: &mut [u8], size: usize) {
+fn run_parts(
+    rt: &impl Print,
+    job: &[u8],
+    a: usize,
+    b: usize,
+    e: usize,
+    out: &mut [u8],
+    size: usize,
+) -> io::Result<()> {
     if a > b {
-        return;
+        return Ok(());
     }
     if b > e {
-        return;
+        return Ok(());
     }
     if e > job.len() {
-        return;
+        return Ok(());
     }
     if size > out.len() {
-        return;
+        return Ok(());
     }
-    draft_parts(&job[0..a], &job[a..b], &job[b..e], &mut out[0..size]);
+    draft_parts(rt, &job[0..a], &job[a..b], &job[b..e], &mut out[0..size])
 }
 
 // Reads a job and runs it; false at the end of the list.
-fn run_job(fd: i32, job: &mut [u8], out: &mut [u8]) -> bool {
+fn run_job(
+    rt: &impl Print,
+    file: &mut impl Read,
+    job: &mut [u8],
+    out: &mut [u8],
+) -> io::Result<bool> {
     let mut head = [0u8; 16];
-    let got = io::read_full(fd, &mut head);
+    let got = prog_cases::read_full(file, &mut head)?;
     if got < 16 {
-        return false;
+        return Ok(false);
     }
     let a = prog_cases::length_at(&head, 0);
     let b = a + prog_cases::length_at(&head, 4);
     let e = b + prog_cases::length_at(&head, 8);
     let size = prog_cases::length_at(&head, 12);
     if e > job.len() {
-        return false;
+        return Ok(false);
     }
-    let n = io::read_full(fd, &mut job[0..e]);
+    let n = prog_cases::read_full(file, &mut job[0..e])?;
     if n < e {
-        return false;
+        return Ok(false);
     }
-    run_parts(job, a, b, e, out, size);
-    true
+    run_parts(rt, job, a, b, e, out, size)?;
+    Ok(true)
 }
 
-fn run_numbered(fd: i32, k: u64) -> bool {
-    io::write_all(STDOUT_FILENO, b"job ");
-    io::print_decimal(STDOUT_FILENO, k);
-    io::write_all(STDOUT_FILENO, b" ");
+fn run_numbered(rt: &impl Print, file: &mut impl Read, k: u64) -> io::Result<bool> {
+    print!(rt; "job {k} ")?;
     let mut job = prog_cases::room();
     let mut out = prog_cases::room();
-    run_job(fd, &mut job, &mut out)
+    run_job(rt, file, &mut job, &mut out)
 }
 
-fn run_all(fd: i32) {
-    let mut k: u64 = 0;
-    while k < 1000000 {
-        if run_numbered(fd, k) {
-            k += 1;
-        } else {
-            io::write_all(STDOUT_FILENO, b"is not there\n");
-            return;
+fn run_all(rt: &impl Print, file: &mut impl Read) -> io::Result<()> {
+    for k in 0..1000000 {
+        if !run_numbered(rt, file, k)? {
+            return println!(rt; "is not there");
         }
     }
+    Ok(())
 }
 
-fn main() {
-    let mut name = io::buffer();
-    let n = os::arg(1, &mut name);
-    let fd = os::open_read(&name[..n]);
-    if fd < 0 {
-        os::fail(&name[..n]);
-        return;
+fn main(rt: HostRuntime) -> io::Result<()> {
+    let name = env::args(&rt)?.nth(1).unwrap_or(String::new(rt.alloc()));
+    match File::open(&rt, &name) {
+        Ok(mut file) => run_all(&rt, &mut file),
+        Err(e) => eprintln!(rt; "{name}: {e}"),
     }
-    run_all(fd);
-    libc::close(fd);
 }

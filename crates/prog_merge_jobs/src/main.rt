@@ -6,7 +6,9 @@
 
 ghost use Rattle.std.specs.Prelude.{◌≤◌};
 
-use libc::STDOUT_FILENO;
+use std::fs::File;
+use std::io::Read;
+use std::{env, io};
 
 // The length at `at` of a job's lengths, cut to that of a buffer.
 fn lent(head: &[u8], at: usize, most: usize) -> usize
@@ -35,22 +37,21 @@ fn index_room() -> [u8; merge_buffers::INDEX_BUFFER] {
     [0u8; merge_buffers::INDEX_BUFFER]
 }
 
-fn print_accepted(out: &[u8], length: u64) {
-    io::write_all(STDOUT_FILENO, b"accepted ");
-    io::print_decimal(STDOUT_FILENO, length);
-    io::write_all(STDOUT_FILENO, b"\n");
-    prog_cases::print_front(out, length);
-    io::write_all(STDOUT_FILENO, b"\n");
+fn print_accepted(rt: &impl Print, out: &[u8], length: u64) -> io::Result<()> {
+    println!(rt; "accepted {length}")?;
+    prog_cases::print_front(rt, out, length)?;
+    println!(rt; "")
 }
 
 fn merge_parts<'a>(
+    rt: &impl Print,
     head: &[u8],
     compiled: &'a [u8],
     assembled: &'a [u8],
     blocks: &[u8],
     path: &[u8],
     out: &mut [u8],
-) {
+) -> io::Result<()> {
     let mut table = table_room();
     let mut places = places_room();
     let mut steps = steps_room();
@@ -75,89 +76,95 @@ fn merge_parts<'a>(
         &mut index[0..x],
     );
     if r.number == 0 {
-        print_accepted(out, r.length);
+        print_accepted(rt, out, r.length)
     } else {
-        prog_cases::print_refusal(r);
+        prog_cases::print_refusal(rt, r)
     }
 }
 
 // Runs a job whose parts end at a, b, e and p of the bytes read.
-fn run_parts(head: &[u8], job: &[u8], a: usize, b: usize, e: usize, p: usize, out: &mut [u8]) {
+fn run_parts(
+    rt: &impl Print,
+    head: &[u8],
+    job: &[u8],
+    a: usize,
+    b: usize,
+    e: usize,
+    p: usize,
+    out: &mut [u8],
+) -> io::Result<()> {
     if a > b {
-        return;
+        return Ok(());
     }
     if b > e {
-        return;
+        return Ok(());
     }
     if e > p {
-        return;
+        return Ok(());
     }
     if p > job.len() {
-        return;
+        return Ok(());
     }
     let size = lent(head, 24, out.len());
     merge_parts(
+        rt,
         head,
         &job[0..a],
         &job[a..b],
         &job[b..e],
         &job[e..p],
         &mut out[0..size],
-    );
+    )
 }
 
 // Reads a job and runs it; false at the end of the list.
-fn run_job(fd: i32, job: &mut [u8], out: &mut [u8]) -> bool {
+fn run_job(
+    rt: &impl Print,
+    file: &mut impl Read,
+    job: &mut [u8],
+    out: &mut [u8],
+) -> io::Result<bool> {
     let mut head = [0u8; 48];
-    let got = io::read_full(fd, &mut head);
+    let got = prog_cases::read_full(file, &mut head)?;
     if got < 48 {
-        return false;
+        return Ok(false);
     }
     let a = prog_cases::length_at(&head, 0);
     let b = a + prog_cases::length_at(&head, 4);
     let e = b + prog_cases::length_at(&head, 8);
     let p = e + prog_cases::length_at(&head, 12);
     if p > job.len() {
-        return false;
+        return Ok(false);
     }
     let stored = lent(&head, 16, p);
-    let n = io::read_full(fd, &mut job[0..stored]);
+    let n = prog_cases::read_full(file, &mut job[0..stored])?;
     if n < stored {
-        return false;
+        return Ok(false);
     }
-    run_parts(&head, job, a, b, e, p, out);
-    true
+    run_parts(rt, &head, job, a, b, e, p, out)?;
+    Ok(true)
 }
 
-fn run_numbered(fd: i32, k: u64) -> bool {
-    io::write_all(STDOUT_FILENO, b"job ");
-    io::print_decimal(STDOUT_FILENO, k);
-    io::write_all(STDOUT_FILENO, b" ");
+fn run_numbered(rt: &impl Print, file: &mut impl Read, k: u64) -> io::Result<bool> {
+    print!(rt; "job {k} ")?;
     let mut job = prog_cases::room();
     let mut out = prog_cases::room();
-    run_job(fd, &mut job, &mut out)
+    run_job(rt, file, &mut job, &mut out)
 }
 
-fn run_all(fd: i32) {
-    let mut k: u64 = 0;
-    while k < 1000000 {
-        if run_numbered(fd, k) {
-            k += 1;
-        } else {
-            io::write_all(STDOUT_FILENO, b"is not there\n");
-            return;
+fn run_all(rt: &impl Print, file: &mut impl Read) -> io::Result<()> {
+    for k in 0..1000000 {
+        if !run_numbered(rt, file, k)? {
+            return println!(rt; "is not there");
         }
     }
+    Ok(())
 }
 
-fn main() {
-    let mut name = io::buffer();
-    let n = os::arg(1, &mut name);
-    let fd = os::open_read(&name[..n]);
-    if fd < 0 {
-        os::fail(&name[..n]);
-        return;
+fn main(rt: HostRuntime) -> io::Result<()> {
+    let name = env::args(&rt)?.nth(1).unwrap_or(String::new(rt.alloc()));
+    match File::open(&rt, &name) {
+        Ok(mut file) => run_all(&rt, &mut file),
+        Err(e) => eprintln!(rt; "{name}: {e}"),
     }
-    run_all(fd);
-    libc::close(fd);
 }

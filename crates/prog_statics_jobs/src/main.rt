@@ -13,19 +13,17 @@ ghost use Rattle.elf_symbols.specs.Symbols.{Tabled};
 use base_fields::ByteOrder;
 use base_scope::Finding;
 use elf_check::{Checked, View};
-use libc::STDOUT_FILENO;
 use statics_table::Static;
+use std::fs::File;
+use std::io::Read;
+use std::{env, io};
 
-fn print_number(x: u64) {
-    io::write_all(STDOUT_FILENO, b" ");
-    io::print_decimal(STDOUT_FILENO, x);
+fn print_number(rt: &impl Print, x: u64) -> io::Result<()> {
+    print!(rt; " {x}")
 }
 
-fn print_refusal(number: u32, place: usize) {
-    io::write_all(STDOUT_FILENO, b"refused");
-    print_number(number as u64);
-    print_number(place as u64);
-    io::write_all(STDOUT_FILENO, b"\n");
+fn print_refusal(rt: &impl Print, number: u32, place: usize) -> io::Result<()> {
+    println!(rt; "refused {number} {place}")
 }
 
 // The index of the section of a code in the compiled object.
@@ -39,93 +37,119 @@ fn section_of(view: View, code: u32) -> usize {
     view.section(code)
 }
 
-fn print_static(file: &[u8], view: View, mode: u32, path: &[u8], s: Static)
+fn print_static(
+    rt: &impl Print,
+    file: &[u8],
+    view: View,
+    mode: u32,
+    path: &[u8],
+    s: Static,
+) -> io::Result<()>
     requires { (length file.now ≤ FILE_LIMIT) × (length path.now ≤ PATH_LIMIT) }
 {
-    io::print_decimal(STDOUT_FILENO, s.value as u64);
-    print_number(section_of(view, s.code) as u64);
-    print_number(statics_names::static_type(s) as u64);
-    print_number(statics_names::static_binding(mode) as u64);
-    print_number(s.offset as u64);
-    io::write_all(STDOUT_FILENO, b" ");
-    let mut name = io::buffer();
+    let section = section_of(view, s.code);
+    let kind = statics_names::static_type(s);
+    let binding = statics_names::static_binding(mode);
+    print!(rt; "{} {section} {kind} {binding} {} ", s.value, s.offset)?;
+    let mut name = [0u8; 4096];
     let end = statics_names::append_written(&mut name, 0, mode, path, file, s);
-    prog_cases::print_front(&name, end);
-    io::write_all(STDOUT_FILENO, b"\n");
+    prog_cases::print_front(rt, &name, end)?;
+    println!(rt; "")
 }
 
-fn print_statics(file: &[u8], view: View, mode: u32, path: &[u8], table: &[u8], count: usize)
+fn print_statics(
+    rt: &impl Print,
+    file: &[u8],
+    view: View,
+    mode: u32,
+    path: &[u8],
+    table: &[u8],
+    count: usize,
+) -> io::Result<()>
     requires { (length file.now ≤ FILE_LIMIT) × (length path.now ≤ PATH_LIMIT) × (count ≤ STATIC_LIMIT) × (STATIC_TABLE ≤ length table.now) }
 {
-    io::write_all(STDOUT_FILENO, b"listed");
-    print_number(count as u64);
-    io::write_all(STDOUT_FILENO, b"\n");
-    let mut k: usize = 0;
-    while k < count {
-        print_static(file, view, mode, path, Static::read(table, k));
-        k += 1;
+    println!(rt; "listed {count}")?;
+    for k in 0..count {
+        print_static(rt, file, view, mode, path, Static::read(table, k))?;
     }
+    Ok(())
 }
 
 // The words of a header.
-fn print_words(order: ByteOrder, header: &[u8])
+fn print_words(rt: &impl Print, order: ByteOrder, header: &[u8]) -> io::Result<()>
     requires { length header.now ≡ 96 }
 {
-    let mut i: usize = 1;
-    while i < 24 {
-        print_number(base_fields::read32(order, header, 4 * i) as u64);
-        i += 1;
+    for i in 1..24usize {
+        print_number(rt, base_fields::read32(order, header, 4 * i) as u64)?;
     }
+    Ok(())
 }
 
 // The header of a debug section after a move.
-fn print_moved(order: ByteOrder, debug: &[u8], old: u32, new: u32)
+fn print_moved(
+    rt: &impl Print,
+    order: ByteOrder,
+    debug: &[u8],
+    old: u32,
+    new: u32,
+) -> io::Result<()>
     requires { 96 ≤ length debug.now }
 {
     let mut header = [0u8; 96];
     base_fields::write_bytes(&mut header, 0, &debug[0..96]);
     statics_shift::move_debug(order, &mut header, old, new);
-    print_words(order, &header);
+    print_words(rt, order, &header)
 }
 
 // The same of a section of which nothing is known yet.
-fn print_shift(order: ByteOrder, debug: &[u8], old: u32, new: u32) {
+fn print_shift(
+    rt: &impl Print,
+    order: ByteOrder,
+    debug: &[u8],
+    old: u32,
+    new: u32,
+) -> io::Result<()> {
     if statics_shift::shift_fails(order, debug, base_scope::SHT_MIPS_DEBUG, old, new) {
-        io::write_all(STDOUT_FILENO, b" refused");
-        return;
+        return print!(rt; " refused");
     }
     if debug.len() >= 96 {
-        print_moved(order, debug, old, new);
+        print_moved(rt, order, debug, old, new)?;
     }
+    Ok(())
 }
 
-fn print_debug(order: ByteOrder, file: &[u8], i: usize, by: u32)
+fn print_debug(rt: &impl Print, order: ByteOrder, file: &[u8], i: usize, by: u32) -> io::Result<()>
     requires { Headed order file.now × (i < section_count order file.now) }
 {
     let h = elf_readers::section_at(order, file, i);
     if h.sh_type != base_scope::SHT_MIPS_DEBUG {
-        return;
+        return Ok(());
     }
     let debug = elf_readers::contents_of(order, file, i);
-    let new = std::num::wrapping_add_u32(h.sh_offset, by);
-    io::write_all(STDOUT_FILENO, b"debug");
-    print_number(i as u64);
-    print_shift(order, debug, h.sh_offset, new);
-    io::write_all(STDOUT_FILENO, b"\n");
+    let new = h.sh_offset.wrapping_add(by);
+    print!(rt; "debug {i}")?;
+    print_shift(rt, order, debug, h.sh_offset, new)?;
+    println!(rt; "")
 }
 
-fn print_sections(order: ByteOrder, file: &[u8], by: u32)
+fn print_sections(rt: &impl Print, order: ByteOrder, file: &[u8], by: u32) -> io::Result<()>
     requires { Headed order file.now }
 {
     let n = elf_readers::section_count(order, file);
-    let mut i: usize = 0;
-    while i < n {
-        print_debug(order, file, i, by);
-        i += 1;
+    for i in 0..n {
+        print_debug(rt, order, file, i, by)?;
     }
+    Ok(())
 }
 
-fn run_accepted(order: ByteOrder, file: &[u8], mode: u32, path: &[u8], table: &mut [u8])
+fn run_accepted(
+    rt: &impl Print,
+    order: ByteOrder,
+    file: &[u8],
+    mode: u32,
+    path: &[u8],
+    table: &mut [u8],
+) -> io::Result<()>
     requires { Named order file.now × Tabled order file.now × (length file.now ≤ FILE_LIMIT) × (length path.now ≤ PATH_LIMIT) × (STATIC_TABLE ≤ length table.old) }
 {
     let view = elf_check::view_of(order, file);
@@ -134,23 +158,28 @@ fn run_accepted(order: ByteOrder, file: &[u8], mode: u32, path: &[u8], table: &m
     let fault = r.fault;
     let tally = r.tally;
     match fault {
-        Finding::Clear => print_statics(file, view, mode, path, table, tally.count),
-        Finding::At(place) => print_refusal(base_scope::STATICS, place),
+        Finding::Clear => print_statics(rt, file, view, mode, path, table, tally.count),
+        Finding::At(place) => print_refusal(rt, base_scope::STATICS, place),
     }
 }
 
-fn run_object(file: &[u8], mode: u32, path: &[u8], by: u32, table: &mut [u8])
+fn run_object(
+    rt: &impl Print,
+    file: &[u8],
+    mode: u32,
+    path: &[u8],
+    by: u32,
+    table: &mut [u8],
+) -> io::Result<()>
     requires { (length file.now ≤ FILE_LIMIT) × (length path.now ≤ PATH_LIMIT) × (STATIC_TABLE ≤ length table.old) }
 {
     let order = elf_readers::order_of(file);
     let answer = elf_check::check(file);
     match answer {
-        Checked::Refused(number, place) => {
-            print_refusal(number, place);
-        }
+        Checked::Refused(number, place) => print_refusal(rt, number, place),
         Checked::Accepted => {
-            run_accepted(order, file, mode, path, table);
-            print_sections(order, file, by);
+            run_accepted(rt, order, file, mode, path, table)?;
+            print_sections(rt, order, file, by)
         }
     }
 }
@@ -162,73 +191,71 @@ fn table_room() -> [u8; base_scope::STATIC_TABLE]
 }
 
 // Runs a job whose parts end at a and e of the bytes read.
-fn run_parts(job: &[u8], a: usize, e: usize, mode: u32, by: u32) {
+fn run_parts(
+    rt: &impl Print,
+    job: &[u8],
+    a: usize,
+    e: usize,
+    mode: u32,
+    by: u32,
+) -> io::Result<()> {
     if a > e {
-        return;
+        return Ok(());
     }
     if e > job.len() {
-        return;
+        return Ok(());
     }
     if a > base_scope::FILE_LIMIT {
-        return;
+        return Ok(());
     }
     if e - a > 255 {
-        return;
+        return Ok(());
     }
     let mut table = table_room();
-    run_object(&job[0..a], mode, &job[a..e], by, &mut table);
+    run_object(rt, &job[0..a], mode, &job[a..e], by, &mut table)
 }
 
 // Reads a job and runs it; false at the end of the list.
-fn run_job(fd: i32, job: &mut [u8]) -> bool {
+fn run_job(rt: &impl Print, file: &mut impl Read, job: &mut [u8]) -> io::Result<bool> {
     let mut head = [0u8; 16];
-    let got = io::read_full(fd, &mut head);
+    let got = prog_cases::read_full(file, &mut head)?;
     if got < 16 {
-        return false;
+        return Ok(false);
     }
     let a = prog_cases::length_at(&head, 0);
     let e = a + prog_cases::length_at(&head, 8);
     if e > job.len() {
-        return false;
+        return Ok(false);
     }
-    let n = io::read_full(fd, &mut job[0..e]);
+    let n = prog_cases::read_full(file, &mut job[0..e])?;
     if n < e {
-        return false;
+        return Ok(false);
     }
     let mode = prog_cases::length_at(&head, 4) as u32;
     let by = prog_cases::length_at(&head, 12) as u32;
-    run_parts(job, a, e, mode, by);
-    true
+    run_parts(rt, job, a, e, mode, by)?;
+    Ok(true)
 }
 
-fn run_numbered(fd: i32, k: u64) -> bool {
-    io::write_all(STDOUT_FILENO, b"job ");
-    io::print_decimal(STDOUT_FILENO, k);
-    io::write_all(STDOUT_FILENO, b" ");
+fn run_numbered(rt: &impl Print, file: &mut impl Read, k: u64) -> io::Result<bool> {
+    print!(rt; "job {k} ")?;
     let mut job = prog_cases::room();
-    run_job(fd, &mut job)
+    run_job(rt, file, &mut job)
 }
 
-fn run_all(fd: i32) {
-    let mut k: u64 = 0;
-    while k < 1000000 {
-        if run_numbered(fd, k) {
-            k += 1;
-        } else {
-            io::write_all(STDOUT_FILENO, b"is not there\n");
-            return;
+fn run_all(rt: &impl Print, file: &mut impl Read) -> io::Result<()> {
+    for k in 0..1000000 {
+        if !run_numbered(rt, file, k)? {
+            return println!(rt; "is not there");
         }
     }
+    Ok(())
 }
 
-fn main() {
-    let mut name = io::buffer();
-    let n = os::arg(1, &mut name);
-    let fd = os::open_read(&name[..n]);
-    if fd < 0 {
-        os::fail(&name[..n]);
-        return;
+fn main(rt: HostRuntime) -> io::Result<()> {
+    let name = env::args(&rt)?.nth(1).unwrap_or(String::new(rt.alloc()));
+    match File::open(&rt, &name) {
+        Ok(mut file) => run_all(&rt, &mut file),
+        Err(e) => eprintln!(rt; "{name}: {e}"),
     }
-    run_all(fd);
-    libc::close(fd);
 }
