@@ -16,8 +16,8 @@ UNFOLDABLE = re.compile(r"^\s*unfoldable pub (\S+) :", re.M)
 def uses(name):
     for line in open("crates.txt", encoding="utf-8"):
         head, _, rest = line.partition(":")
-        if head == name:
-            return rest.split()
+        if head.split()[:1] == [name]:
+            return [used for used in rest.split() if os.path.isdir(f"crates/{used}")]
     sys.exit(f"crates.txt has no {name}")
 
 
@@ -33,9 +33,9 @@ def made(name):
     for crate, module, found in modules:
         plain = [n for n in found if every.count(n) == 1]
         if plain:
-            imports.append(f"use Rattle·{crate}.specs.{module}.{{{', '.join(plain)}}}")
+            imports.append(f"use Rattle.{crate}.specs.{module}.{{{', '.join(plain)}}}")
         if len(plain) < len(found):  # a name that two modules have goes by its module
-            imports.append(f"use Rattle·{crate}.specs.{module} as {module}")
+            imports.append(f"use Rattle.{crate}.specs.{module} as {module}")
             prefixes.append(module)
         names += [n if every.count(n) == 1 else f"{module}.{n}" for n in found]
     twice = sorted({m for m in prefixes if prefixes.count(m) > 1})
@@ -50,7 +50,8 @@ def made(name):
 
 def main():
     if sys.argv[1:] == ["--check"]:
-        stale = [p for p in glob.glob("crates/*/proofs/Everything.antt") if open(p, encoding="utf-8").read() != made(p.split("/")[1])]
+        # (rt fmt may break the lines)
+        stale = [p for p in sorted(glob.glob("crates/*/proofs/Everything.antt")) if open(p, encoding="utf-8").read().split() != made(p.split("/")[1]).split()]
         for path in stale:
             print(f"{path} is not today's: run tools/everything.py {path.split('/')[1]}")
         return bool(stale)
