@@ -33,6 +33,7 @@ import sys
 import tempfile
 import threading
 import time
+from concurrent.futures import ThreadPoolExecutor
 
 PROGRAM = re.compile(r"^# wrong: (\w+), (?:fn ([\w:]+)|definition ([\w'-]+)(?:, theorem ([\w'-]+))?): (.+)$")
 VERDICT = re.compile(r"^fn (\S+): (.+)$", re.M)
@@ -173,33 +174,33 @@ def uses():
     return below
 
 
-def files_of(crate):
-    """the texts that a check of the crate reads, by their path in it"""
+def files_of(folder):
+    """the texts of a crate that its check reads, by their path in its folder"""
     texts = {}
     for part in READ:
-        for at, _, names in os.walk(f"crates/{crate}/{part}"):
+        for at, _, names in os.walk(f"{folder}/{part}"):
             for name in names:
                 path = os.path.join(at, name)
-                texts[os.path.relpath(path, f"crates/{crate}")] = open(path, encoding="utf-8").read()
+                texts[os.path.relpath(path, folder)] = open(path, encoding="utf-8").read()
     return texts
 
 
 @functools.lru_cache(maxsize=None)
-def sum_of(crate):
-    return hashlib.sha256(repr(sorted(files_of(crate).items())).encode()).hexdigest()
+def sum_of(folder):
+    return hashlib.sha256(repr(sorted(files_of(folder).items())).encode()).hexdigest()
 
 
-def key_of(one, crate, below, kit):
+def key_of(one, crate, below, top, kit):
     """the name under which it is noted that a program was refused: a sum of all that its check reads, and of this tool"""
     tool = open(os.path.abspath(__file__), "rb").read()
-    read = [sum_of(name) for name in [crate, *below]]
+    read = [sum_of(f"{top}/crates/{name}") for name in [crate, *below]]
     return hashlib.sha256(repr((kit, tool, crate, below, read, one.changes, one.function, one.theorem)).encode()).hexdigest()
 
 
 class Lane:
     """A copy of the crates, in which one check runs at a time. Its folder stays the same from run to run, since rt notes where it left work."""
 
-    def __init__(self):
+    def __init__(self, top):
         for number in range(1000):
             self.folder = os.path.join(tempfile.gettempdir(), f"wrong_programs.{os.getuid()}.{number}")
             os.makedirs(self.folder, 0o700, exist_ok=True)
@@ -210,8 +211,9 @@ class Lane:
             except BlockingIOError:
                 os.close(self.held)
         self.clear()
-        shutil.copytree("crates", f"{self.folder}/crates", ignore=lambda at, names: [n for n in names if n not in READ] if at.count("/") == 1 else [])
-        shutil.copy("crates.txt", self.folder)
+        skips = lambda at, names: [name for name in names if name not in READ] if os.path.dirname(at) == f"{top}/crates" else []
+        shutil.copytree(f"{top}/crates", f"{self.folder}/crates", ignore=skips)
+        shutil.copy(f"{top}/crates.txt", self.folder)
 
     def clear(self):
         for name in os.listdir(self.folder):
@@ -219,18 +221,23 @@ class Lane:
             with contextlib.suppress(OSError):
                 os.remove(f"{self.folder}/{name}")
 
+    def write(self, crate, texts):
+        for path, text in texts.items():
+            with open(f"{self.folder}/crates/{crate}/{path}", "r+", encoding="utf-8") as file:
+                if file.read() != text:
+                    file.seek(0)
+                    file.truncate()
+                    file.write(text)
+
     def checked(self, crate, texts):
         """what rt check says of the crate with these texts"""
         here = f"{self.folder}/crates/{crate}"
-        for path, text in texts.items():
-            if open(f"{here}/{path}", encoding="utf-8").read() != text:
-                with open(f"{here}/{path}", "w", encoding="utf-8") as file:
-                    file.write(text)
+        self.write(crate, texts)
         ran = subprocess.run(["rt", "check", "--jobs", "1"], cwd=here, stdin=subprocess.DEVNULL, stdout=subprocess.PIPE, stderr=subprocess.STDOUT, text=True, errors="replace")
         return Log(ran.returncode, ran.stdout)
 
 
-def missed(crate, found, texts, check, passed, say=lambda text: None):
+def missed(found, texts, check, passed, say=lambda text: None):
     """the programs that are not refused for themselves, each with the reason; `check` gives the log of a check of these texts, `passed` is told of each that is refused"""
     faults, waiting = [], []
     for one in found:
@@ -283,56 +290,53 @@ def main(words):
         sys.exit(f"crates.txt has no {lacking[0]}")
     kit = subprocess.run(["rt", "version"], capture_output=True, text=True, check=True).stdout
     os.makedirs(CACHE, exist_ok=True)
-    count, faults, tried, work = 0, [], [], []
+    # (the checkout may change meanwhile: what is tried and noted is the crates as they stand now)
+    first = Lane(os.getcwd())
+    count, faults, tried, work = 0, [], 0, []
     for crate in sorted(below, key=lambda name: len(below[name])):
         found = []
-        for path in sorted(glob.glob(f"crates/{crate}/must-fail/*.edit")):
+        for path in sorted(glob.glob(f"crates/{crate}/must-fail/*.edit")) if not names or crate in names else []:
             own, form = programs(path)
             faults += form
             found += own
-        if names and crate not in names:
-            continue
-        count += len(found)
-        keys = {id(one): key_of(one, crate, below[crate], kit) for one in found}
+        keys = {id(one): key_of(one, crate, below[crate], first.folder, kit) for one in found}
         new = [one for one in found if anew or not os.path.exists(f"{CACHE}/{keys[id(one)]}")]
         if new:
             work.append((crate, new, keys))
-        tried += new
-    print(f"{len(tried)} of {count} wrong programs are to be tried, of {len(work)} crates; the others were refused before", flush=True)
-    printing, taking = threading.Lock(), iter(list(work))
+        count, tried = count + len(found), tried + len(new)
+    print(f"{tried} of {count} wrong programs are to be tried, of {len(work)} crates; the others were refused before", flush=True)
+    number = max(1, min(room_for(), len(work)))
+    free = [first, *(Lane(first.folder) for _ in range(number - 1))]
+    printing, taking = threading.Lock(), iter(work)
 
-    def lane():
-        here = None
+    def lane(here):
         while True:
             with printing:
                 job = next(taking, None)
             if job is None:
-                break
-            here = here or Lane()
+                return
             crate, found, keys = job
-            begun, notes, texts = time.time(), [], files_of(crate)
+            begun, notes, texts = time.time(), [], files_of(f"{here.folder}/crates/{crate}")
             log = here.checked(crate, texts)
             if log.ended:
                 told = [(one, "the crate is not proved as it stands") for one in found]
             else:
                 passed = lambda one: open(f"{CACHE}/{keys[id(one)]}", "w").close()
-                told = missed(crate, found, texts, lambda changed: here.checked(crate, changed), passed, notes.append)
-                for path, text in texts.items():
-                    with open(f"{here.folder}/crates/{crate}/{path}", "w", encoding="utf-8") as file:
-                        file.write(text)
+                told = missed(found, texts, lambda changed: here.checked(crate, changed), passed, notes.append)
+                here.write(crate, texts)
             with printing:
                 print(f"{crate}: {len(found) - len(told)} of {len(found)} are refused for themselves ({time.time() - begun:.0f} s: {'; '.join(notes)})", flush=True)
                 if log.ended:
                     print("\n".join(log.text.split("\n")[-8:]), flush=True)
                 faults.extend(f"{crate}: {one.label}: {why}" for one, why in told)
-        if here:
-            here.clear()
 
-    lanes = [threading.Thread(target=lane) for _ in range(min(room_for(), len(work)))]
-    for one in lanes:
-        one.start()
-    for one in lanes:
-        one.join()
+    try:
+        with ThreadPoolExecutor(number) as pool:
+            for done in [pool.submit(lane, here) for here in free]:
+                done.result()
+    finally:
+        for here in free:
+            here.clear()
     for fault in faults:
         print(fault)
     print(f"{count} wrong programs, {len(faults)} faults")
@@ -359,9 +363,9 @@ def self_test():
     gone = own % ("g", "module `a.g.Goals` has no `goal` that can be named from here")
     goal = "note: src/lib.rt:7:1: it is not proved that what the function ensures holds when it returns (`returns`)%s\n"
     values = "; the facts known there allow values at which this goal is false"
-    three = gone + "fn a::f: proved\n" + goal + "fn a::g: not proved\n"
-    assert not refused(g, log(three % ""))[0], "one whose proof no longer fits must be reported, though goals of other names are open"
-    assert refused(g, log(three % values))[0]
+    only = gone + "fn a::f: proved\n" + goal + "fn a::g: not proved\n"
+    assert not refused(g, log(only % ""))[0], "one whose proof no longer fits must be reported, though goals of other names are open"
+    assert refused(g, log(only % values))[0]
     assert not refused(g, log(gone + goal % values + "fn a::f: not proved\nfn a::g: not proved\n"))[0], "the values of another function's goal are no refusal"
     assert not refused(g, log(two % "no proof: expected invariants in ./proofs/g/Invariants.antt"))[0], "one that only lacks a proof file must be reported"
     assert not refused(g, Log(0, two % "proved" + "logic=proved\n"))[0]
@@ -390,7 +394,7 @@ def self_test():
         return log(text) if wrong else Log(0, text + "logic=proved\n")
 
     well = []
-    told = missed("a", three, texts, check, well.append)
+    told = missed(three, texts, check, well.append)
     assert ([one.label for one in well], [one.label for one, _ in told]) == (["f", "g"], ["h"]), (well, told)
     print("self-test: passed")
     return False
