@@ -8,7 +8,8 @@ a line
     # wrong: LABEL, definition NAME, theorem THEOREM: false at ..
 
 and the replacements that follow it. Here each must be refused for itself: goals of the function's own proof, or the theorem, are refused, and not only because something
-that it cites was not admitted, or because a proof names a goal, a step or a word that is no longer there.
+that it cites was not admitted, or because a proof names a goal, a step or a word that is no longer there. (A goal's name goes by the text of the code: where a program
+changes that, the function's proof is tried once more under the new names.)
 
 A crate is checked as it stands, on a copy, and then with its programs: several at once where each changes the body of another function, since a function's proof reads
 its own body and the contracts alone; and every other program by itself. Of those at once that are not refused for themselves, as where a callee's refusal keeps rt from
@@ -42,6 +43,8 @@ ERROR = re.compile(r"^\./proofs/(\S+)\.antt:\d+:\d+: error: (?:`([^`]+)`: )?(.*)
 UNFIT = re.compile(r"was not admitted|that can be named from here|has no field|has no `|is not in scope|is no name")
 # an open goal that is false at some values; and a verdict's line
 FALSE = re.compile(r"^note: src/\S+: it is not proved that .* allow values at which this goal is false", re.M)
+OPEN = re.compile(r"^note: src/\S+: it is not proved that .*? \(`([^`]+)`\)", re.M)
+GONE = re.compile(r"`goal\.([^`]+)`: module `[^`]+` has no `")
 ENDED = re.compile(r"^(?:fn|struct|enum|trait|impl|type) \S+: .*$", re.M)
 CACHE = os.path.join(os.environ.get("XDG_CACHE_HOME") or os.path.expanduser("~/.cache"), "daphulle", "wrong_programs")
 READ = ("src", "specs", "proofs")
@@ -152,6 +155,29 @@ def refused(one, log):
     is_own = is_open or is_false or said.startswith("not proved") and any(not UNFIT.search(it) for it in own)
     why = "" if fits else f"; a proof file names what is gone: {next(it for it in own if UNFIT.search(it))[:120]}"
     return bool(is_own), f"nothing of {one.function} is refused for itself ({said[:120]}{why})"
+
+
+def renamed(one, texts, log):
+    """the texts with the proof of a program's function under the names that its goals have now, which go by the text of the code; None where none went"""
+    verdict = next((it for it in VERDICT.finditer(log.text) if one.function and is_named(one.function, it[1].partition("::")[2])), None)
+    if not verdict:
+        return None
+    folder = f"proofs/{verdict[1].partition('::')[2].replace('::', '/')}/"
+    above = log.text[: verdict.start()]
+    opened = OPEN.findall(above[max((it.end() for it in ENDED.finditer(above)), default=0) :])
+    gone = [it[1] for file, _, said in ERROR.findall(log.text) if f"proofs/{file}".startswith(folder) for it in GONE.finditer(said)]
+    words = {}
+    for old in dict.fromkeys(gone):
+        head, _, where = old.rpartition("-then-")
+        new = next((it for it in opened if it.rpartition("-then-")[0] == head and it not in words.values()), None)
+        if new:
+            words[old] = new
+            words[f"if-{where}"] = f"if-{new.rpartition('-then-')[2]}"
+    changed = dict(texts)
+    for path, text in texts.items():
+        if path.startswith(folder):
+            changed[path] = re.sub(r"[\w'-]+", lambda it: words.get(it[0], it[0]), text)
+    return changed if changed != texts else None
 
 
 def uses():
@@ -267,7 +293,13 @@ def missed(found, texts, check, passed, say=lambda text: None):
         else:
             together = left + rest
     for one in [*together, *alone]:
-        is_refused, why = refused(one, check(applied(texts, [one])))
+        changed = applied(texts, [one])
+        log = check(changed)
+        is_refused, why = refused(one, log)
+        again = None if is_refused else renamed(one, changed, log)
+        if again:
+            say(f"{one.label}: its proof under the goals' new names")
+            is_refused, why = refused(one, check(again))
         say(f"{one.label} alone: {'refused' if is_refused else why}")
         if is_refused:
             passed(one)
@@ -396,6 +428,15 @@ def self_test():
     well = []
     told = missed(three, texts, check, well.append)
     assert ([one.label for one in well], [one.label for one, _ in told]) == (["f", "g"], ["h"]), (well, told)
+    # a proof that names a goal by the old text is tried under the new name, and only what is refused then counts
+    texts = {"src/lib.rt": "fn f() {\n    a7\n}\n", "proofs/f/Answers.antt": "returns-then-a-gt7 : goal.returns-then-a-gt7 = c.if-a-gt7.true\n"}
+    moved = program("moved", "f", changes=[("src/lib.rt", "    a7", "    a6")])
+    lost = own % ("f", "`goal.returns-then-a-gt7`: module `a.Goals` has no `returns-then-a-gt7` that can be named from here")
+    lost += "note: src/lib.rt:2:5: it is not proved that f ensures it (`returns-then-a-gt6`); `search` gave up\nfn a::f: not proved\n"
+    fits = "returns-then-a-gt6 : goal.returns-then-a-gt6 = c.if-a-gt6.true\n"
+    for last, wanted in [(log(own % ("f", "the two types differ") + "fn a::f: not proved\n"), 0), (Log(0, "fn a::f: proved\nlogic=proved\n"), 1)]:
+        told = missed([moved], texts, lambda changed: last if changed["proofs/f/Answers.antt"] == fits else log(lost), lambda one: None)
+        assert len(told) == wanted, told
     print("self-test: passed")
     return False
 
