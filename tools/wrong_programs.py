@@ -11,6 +11,8 @@ and the replacements that follow it. Here each must be refused for itself: goals
 that it cites was not admitted, or because a proof names a goal, a step or a word that is no longer there. (A goal's name goes by the text of the code: where a program
 changes that, the function's proof is tried once more under the new names.)
 
+A refusal says that the proof that is there, and what rt finds by itself, do not hold of the program; that it is wrong is what its line says, by an input.
+
 A crate is checked as it stands, on a copy, and then with its programs: several at once where each changes the body of another function, since a function's proof reads
 its own body and the contracts alone; and every other program by itself. Of those at once that are not refused for themselves, as where a callee's refusal keeps rt from
 trying a caller's goals, the next check has fewer; a program fails only by itself. Checks begin with what rt check kept. What was refused is noted below
