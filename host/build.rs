@@ -24,8 +24,8 @@ fn main() {
     println!("cargo::rerun-if-changed={}", archive.display());
     if !archive.is_file() {
         println!(
-            "cargo::error={} is not there. Run `rt staticlib {LIBRARY}` at the top of the \
-             repository, or set {VARIABLE} to the folder that holds lib{LIBRARY}.a.",
+            "cargo::error={} is not there. Run tools/build, or set {VARIABLE} to the folder that \
+             holds lib{LIBRARY}.a: `rt lib` in crates/{LIBRARY} puts it into out/ there.",
             archive.display()
         );
         return;

@@ -21,7 +21,7 @@ def crates():
     """each crate and the crates of this repository that it uses, in the order of crates.txt"""
     uses = {}
     for line in open(os.path.join(HOME, "crates.txt"), encoding="utf-8"):
-        match = re.match(r"(\w+):(.*)", line)
+        match = re.match(r"(\w+)(?: [\w=+ -]+)?:(.*)", line)  # NAME, and what kind of crate it is
         if match:
             uses[match.group(1)] = match.group(2).split()
     return {name: [used for used in them if used in uses] for name, them in uses.items()}

@@ -24,7 +24,7 @@
 extern "C" {
 #endif
 
-/* In the archive that `rt staticlib daphulle` writes, the calls are named `draft` and
+/* In the archive that `rt lib` writes in crates/daphulle, the calls are named `draft` and
  * `merge`, as document 01 has them. A program that links that one, and not the
  * installed one, defines this, and can have no functions of these names. */
 #ifdef DAPHULLE_PLAIN_NAMES

@@ -6,7 +6,7 @@ mod common;
 use common::{CASE_FILE, DRAFT, FIRMWARE, Folder, command::COMMAND, known_merge, tools::are_there};
 use daphulle::{ConvertStatics, Error, Merge, PRELUDE, draft, draft_within, merge};
 use std::{
-    collections::{BTreeMap, BTreeSet},
+    collections::BTreeSet,
     env,
     fs::{self, File},
     io::{BufRead, BufReader},
@@ -42,8 +42,8 @@ fn code<'a>(page: &'a str, language: &str, word: &str) -> (&'a str, &'a str) {
 
 /// What the scripts in tools/ need of any system.
 const BASE: &[&str] = &[
-    "awk", "bash", "cat", "dirname", "head", "mktemp", "realpath", "rm", "sed", "sleep", "sort",
-    "tac", "uname",
+    "awk", "bash", "cat", "cmp", "cp", "dirname", "grep", "head", "mkdir", "mktemp", "nproc",
+    "realpath", "rm", "sed", "sleep", "sort", "uname",
 ];
 
 /// A folder that has nothing but tools of the system and scripts, each a name and its lines.
@@ -77,11 +77,19 @@ fn lines(bytes: &[u8]) -> Vec<&str> {
     str::from_utf8(bytes).unwrap().lines().collect()
 }
 
-/// Stands for rt: writes down what it is asked for.
-const RT: &str = r#"case $1 in
+/// Stands for rt: writes down what it is asked for. The archive of `rt lib` is the one that this test
+/// is linked with, where there is none.
+const RT: &str = concat!(
+    r#"case $1 in
 version) echo 'a kit' ;;
 *) echo "$*" >> "$0.asked" ;;
-esac"#;
+esac
+if [ "$1" = lib ] && [ ! -e out/libdaphulle.a ]; then
+    mkdir -p out && cp '"#,
+    env!("DAPHULLE_ARCHIVE"),
+    r#"' out/libdaphulle.a
+fi"#
+);
 
 fn asked_of_rt(path: &Folder) -> String {
     fs::read_to_string(path.path().join("rt.asked")).unwrap_or_default()
@@ -166,36 +174,22 @@ fn a_build_with_an_old_rust_says_both_versions() {
     assert!(output.status.success() && !asked.is_empty(), "{output:?}");
 }
 
-/// The crates of the library, by crates.txt.
-fn crates_of_the_library() -> BTreeSet<String> {
-    let text = read("crates.txt");
-    let lines = text.lines().filter_map(|line| line.split_once(':'));
-    let uses: BTreeMap<&str, &str> = lines.collect();
-    let (mut reached, mut rest) = (BTreeSet::new(), vec!["daphulle"]);
-    while let Some(name) = rest.pop() {
-        if reached.insert(name.to_owned()) {
-            rest.extend(uses[name].split_whitespace());
-        }
-    }
-    reached
-}
-
-/// Each crate is shown with its number as soon as rt has proved it, and those of before are counted.
+/// Each crate is shown with its number as soon as rt is done with it.
 #[test]
 fn a_build_shows_where_it_is() {
-    let rt = r#"case $1 in
-version) echo 'a kit' ;;
-check)
-    echo "$*" >> "$0.asked"
-    echo 'rt: base_lists proved (unchanged since it was last proved)'
+    let all = r#"if [ "$1" = all ]; then
+    echo '== base_lists'
     echo 'library base_lists: modules loaded=9 checked=0' >&2
-    echo 'rt: base_packed proved (3 s)'
+    echo '== base_packed'
     for i in 1 2 3 4 5 6 7 8 9 10; do [ -e "$0.seen" ] || sleep 1; done
     [ -e "$0.seen" ] || exit 1
-    echo 'rt: base_fields proved (12 s)'
-    echo 'rt: ok, 3 proved' ;;
-*) echo "$*" >> "$0.asked" ;;
-esac"#;
+    echo '== base_fields'
+    echo 'fn base_fields::read8: proved'
+    echo '== summary'
+    echo '3 of 3 crates ok'
+fi
+"#;
+    let rt = all.to_owned() + RT;
     let present = rust("1.999.0");
     let others = [
         ("cargo", &*present),
@@ -203,7 +197,7 @@ esac"#;
         ("cc", ""),
         ("ar", ""),
     ];
-    let path = path_of(&[BASE], &[&others[..], &[("rt", rt)]].concat());
+    let path = path_of(&[BASE], &[&others[..], &[("rt", &*rt)]].concat());
     let mut build = script("build", &path);
     let mut child = build.stdout(Stdio::piped()).spawn().unwrap();
     let mut printed = vec![];
@@ -215,21 +209,21 @@ esac"#;
         printed.push(line);
     }
     assert!(child.wait().unwrap().success(), "{printed:?}");
-    let count = crates_of_the_library().len();
-    let expected = [
-        format!("Proving the {count} crates of the library, with a kit .."),
-        format!("2 of {count}: base_packed proved (3 s)"),
-        format!("3 of {count}: base_fields proved (12 s)"),
-        format!("1 of {count} were proved before"),
-        format!("{count} of {count}: daphulle and its archive .."),
-    ];
-    assert_eq!(printed[..5], expected);
     let crates = read("crates.txt");
-    let uses = crates
-        .lines()
-        .find_map(|line| line.strip_prefix("daphulle: "));
-    let asked = format!("check {}\nstaticlib daphulle\n", uses.unwrap());
-    assert_eq!(asked_of_rt(&path), asked);
+    let crates = crates.lines().map(|line| line.split('#').next().unwrap());
+    let count = crates.filter(|line| line.contains(':')).count();
+    assert!(printed[0].starts_with(&format!("Proving the {count} crates, with a kit;")));
+    let expected = [
+        format!("1 of {count}: base_lists"),
+        format!("2 of {count}: base_packed"),
+        format!("3 of {count}: base_fields"),
+        "The archive of daphulle ..".into(),
+    ];
+    assert_eq!(printed[1..5], expected);
+    let asked = asked_of_rt(&path);
+    let asked: Vec<&str> = asked.lines().collect();
+    assert!(asked[0].starts_with("all check --jobs "), "{asked:?}");
+    assert_eq!(asked[1..], ["lib"]);
 }
 
 /// All that rt said is shown where a proof fails, and nothing is built.
@@ -238,7 +232,7 @@ fn a_failed_proof_shows_what_rt_said() {
     let fails = |when: &str| {
         format!(
             "case $1 in version) echo 'a kit' ;; {when}) echo 'goal 7 is open' >&2; \
-             echo 'rt: base_lists NOT PROVED (exit 1, 4 s)'; exit 1 ;; esac"
+             echo 'base_lists: failed (1)'; exit 1 ;; esac"
         )
     };
     let present = rust("1.999.0") + "\n[ \"$1\" = --version ] || touch \"$0.built\"";
@@ -248,7 +242,7 @@ fn a_failed_proof_shows_what_rt_said() {
         ("cc", ""),
         ("ar", ""),
     ];
-    for when in ["check", "staticlib"] {
+    for when in ["all", "lib"] {
         let rt = fails(when);
         let path = path_of(&[BASE], &[&others[..], &[("rt", &*rt)]].concat());
         let output = script("build", &path).output().unwrap();
@@ -256,7 +250,7 @@ fn a_failed_proof_shows_what_rt_said() {
         let told = lines(&output.stdout);
         assert!(told.contains(&"goal 7 is open"), "{told:?}");
         let last = *told.last().unwrap();
-        assert_eq!(last, "rt: base_lists NOT PROVED (exit 1, 4 s)");
+        assert_eq!(last, "base_lists: failed (1)");
         assert!(!path.path().join("cargo.built").exists());
     }
 }
