@@ -1,4 +1,4 @@
-// Both calls in one static library (`rt staticlib daphulle`): an archive has the functions that its own crate exports and none of the crates below, so each call is handed on here
+// Both calls in one static library (`rt lib`): an archive has the functions that its own crate exports and none of the crates below, so each call is handed on here
 // under its contract; and demand 3 stands in that of the merge.
 #![tactic(auto)]
 
