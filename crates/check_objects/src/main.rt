@@ -2,7 +2,6 @@
 #![tactic(auto)]
 
 use elf_check::Checked;
-use std::alloc::{AllocError, Global};
 use std::fs::File;
 use std::io::Read;
 use std::rt::Files;
@@ -22,26 +21,21 @@ fn print_answer(rt: &impl Print, answer: Checked) -> io::Result<()> {
     }
 }
 
-fn check_read(rt: &impl Print, input: &mut impl Read, file: &mut Vec<u8>) -> io::Result<()> {
-    input.take(ROOM as u64).read_to_end(file)?;
-    print_answer(rt, elf_check::check(file))
+fn check_read(rt: &impl Print, input: &mut impl Read, file: &mut [u8]) -> io::Result<()> {
+    let n = prog_cases::read_full(input, file)?;
+    print_answer(rt, elf_check::check(&file[..n]))
 }
 
-// Room for a file, with nothing in it yet.
-fn room(alloc: Global) -> Result<Vec<u8>, AllocError> {
-    Vec::with_capacity(alloc, ROOM)
+fn room() -> [u8; ROOM] {
+    [0u8; ROOM]
 }
 
-fn check_open(rt: &(impl Print + AllocGlobal), input: &mut impl Read) -> io::Result<()> {
-    let mut file = room(rt.alloc())?;
+fn check_open(rt: &impl Print, input: &mut impl Read) -> io::Result<()> {
+    let mut file = room();
     check_read(rt, input, &mut file)
 }
 
-fn check_file(
-    rt: &(impl Print + AllocGlobal),
-    name: &str,
-    input: &mut impl Read,
-) -> io::Result<()> {
+fn check_file(rt: &impl Print, name: &str, input: &mut impl Read) -> io::Result<()> {
     print!(rt; "{name}: ")?;
     check_open(rt, input)?;
     println!(rt; "")
