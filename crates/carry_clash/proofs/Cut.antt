@@ -14,8 +14,8 @@ use Rattle.elf_records.specs.declared.symbol.SymbolEntry.{SymbolEntry}
 use Rattle.elf_readers.specs.Readers.{section}
 use Rattle.elf_symbols.specs.Symbols.{symbol_count, symbol}
 use Rattle.elf_relocations.specs.Relocations.{is_table}
-use Rattle.elf_check.specs.declared.View.{View}
-use Rattle.elf_check.specs.View.{view_of}
+use Rattle.symbols_taken.specs.of_elf_check.declared.View.{View}
+use Rattle.symbols_taken.specs.of_elf_check.View.{view_of}
 use Rattle.symbols_taken.specs.Code.{code_in}
 use Rattle.symbols_taken.proofs.Sections.{code_is}
 use Rattle.carry_clash.specs.Clash.{is_stale, leads_out, holds_symbol, is_missed, is_cut}

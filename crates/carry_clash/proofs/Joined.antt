@@ -17,9 +17,9 @@ use Rattle.base_scope.specs.Refusals.{found_below}
 use Rattle.elf_records.specs.declared.section.SectionHeader.{SectionHeader}
 use Rattle.elf_readers.specs.Readers.{section_count, section, section_named, coded_contents}
 use Rattle.elf_relocations.specs.Relocations.{is_rela, is_table}
-use Rattle.elf_check.specs.declared.View.{View}
-use Rattle.elf_check.specs.View.{view_of, section_in}
-use Rattle.elf_check.proofs.Views.{view_section}
+use Rattle.symbols_taken.specs.of_elf_check.declared.View.{View}
+use Rattle.symbols_taken.specs.of_elf_check.View.{view_of, section_in}
+use Rattle.symbols_taken.proofs.of_elf_check.Views.{view_section}
 use Rattle.merge_kept.specs.Kept.{kept}
 use Rattle.symbols_taken.specs.Used.{code_of, is_source, is_source_table}
 use Rattle.symbols_taken.specs.Code.{code_in}

@@ -7,13 +7,14 @@ ghost use Rattle.base_lists.specs.Ranges.{first, least};
 ghost use Rattle.base_scope.specs.Codes.{LINES, CODES};
 ghost use Rattle.elf_readers.specs.Readers.{section_count, section_named};
 ghost use Rattle.elf_readers.specs.Bounds.{Named};
-ghost use Rattle.elf_check.specs.View.{Viewed};
+ghost use Rattle.symbols_taken.specs.of_elf_check.View.{Viewed};
 ghost use Rattle.carry_clash.specs.Clash.{is_stale, leads_out, holds_symbol, is_missed, is_cut, joined_name, name_among, is_carried, is_other_table, joined_section, is_misjoined, clash_of, clash_finding};
 
 use base_fields::ByteOrder;
 use base_scope::Finding;
-use elf_check::View;
 pub use symbols_taken;
+use symbols_taken::elf_check;
+use symbols_taken::elf_check::View;
 pub use symbols_taken::late_lookups;
 
 // Its number.

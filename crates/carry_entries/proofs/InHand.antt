@@ -25,12 +25,12 @@ use Rattle.blocks_spans.specs.Spans.{spans_of, replaced_word}
 use Rattle.blocks_spans.specs.Table.{spans_in}
 use Rattle.blocks_spans.specs.Copied.{copied}
 use Rattle.late_length.specs.Late.{has_late_step}
-use Rattle.late_moves.specs.Moved.{is_moved, is_jump_word, moved_place}
+use Rattle.carry_clash.specs.of_late_moves.Moved.{is_moved, is_jump_word, moved_place}
 use Rattle.carry_clash.specs.of_late_lookups.declared.LatePlace.TheVariants.{Moved, Unmoved as NotMoved}
 use Rattle.carry_clash.specs.of_late_lookups.Fields.{pick_late_place, offset_at, jump_at}
 use Rattle.carry_clash.specs.of_late_lookups.Lookups.{moved_offset}
 use Rattle.carry_clash.proofs.of_late_lookups.Lookups.{late_rows, offset_moved, jump_moved}
-use Rattle.merge_labels.specs.Labels.{late_start}
+use Rattle.carry_clash.specs.of_merge_labels.Labels.{late_start}
 use Rattle.symbols_merge.specs.Candidates.{Candidates}
 use Rattle.carry_clash.specs.of_symbols_taken.Code.{LateIn}
 use Rattle.symbols_fill.specs.of_symbols_ids.Entries.{late_place}

@@ -13,8 +13,8 @@ use Rattle.blocks_places.specs.Places.{Place}
 use Rattle.blocks_spans.specs.Spans.{spans_of, replaced_word}
 use Rattle.blocks_spans.specs.Copied.{copied}
 use Rattle.late_length.specs.Late.{has_late_step}
-use Rattle.late_moves.specs.Moved.{is_moved, is_jump_word}
-use Rattle.merge_labels.specs.Labels.{late_start}
+use Rattle.carry_clash.specs.of_late_moves.Moved.{is_moved, is_jump_word}
+use Rattle.carry_clash.specs.of_merge_labels.Labels.{late_start}
 use Rattle.symbols_fill.specs.of_symbols_ids.Entries.{late_place}
 use Rattle.symbols_fill.specs.of_symbols_ids.Ids.{first_a, merge_candidates}
 use Rattle.symbols_numbers.specs.Result.{new_of}

@@ -10,7 +10,7 @@ use Rattle.blocks_spans.specs.Table.{spans_in}
 use Rattle.blocks_spans.specs.Copied.{copied}
 use Rattle.late_length.specs.Late.{has_late_step}
 use Rattle.carry_clash.specs.of_late_walk.Table.{Moves}
-use Rattle.merge_labels.specs.Labels.{late_start}
+use Rattle.carry_clash.specs.of_merge_labels.Labels.{late_start}
 use Rattle.symbols_fill.specs.of_symbols_ids.Ids.{first_a}
 use Rattle.carry_entries.specs.declared.Side.{Side}
 

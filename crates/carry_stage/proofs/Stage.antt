@@ -29,7 +29,7 @@ use Rattle.merge_labels.specs.Labels.{late_start}
 use Rattle.symbols_stage.specs.of_merge_sections.declared.Stage.{Stage}
 use Rattle.symbols_stage.specs.of_merge_sections.Stages.{StageRead, Movable}
 use Rattle.symbols_stage.proofs.of_merge_sections.Sections.{step_runs, step_start}
-use Rattle.symbols_ids.specs.Ids.{first_a, merge_candidates}
+use Rattle.carry_entries.specs.of_symbols_ids.Ids.{first_a, merge_candidates}
 use Rattle.symbols_numbers.specs.Result.{NumbersOf}
 use Rattle.symbols_stage.specs.declared.Manner.{Manner}
 use Rattle.symbols_stage.specs.declared.Counts.{Counts}

@@ -22,7 +22,7 @@ use Rattle.merge_buffers.specs.Buffers.{STEP_BUFFER, INDEX_BUFFER, places_part, 
 use Rattle.merge_labels.specs.Labels.{late_start}
 use Rattle.symbols_stage.specs.of_merge_sections.declared.Stage.{Stage}
 use Rattle.merge_kept.specs.Kept.{kept}
-use Rattle.symbols_ids.specs.Ids.{merge_candidates}
+use Rattle.carry_entries.specs.of_symbols_ids.Ids.{merge_candidates}
 use Rattle.symbols_numbers.specs.Result.{NumbersOf}
 use Rattle.symbols_stage.specs.declared.Manner.{Manner}
 use Rattle.carry_entries.specs.declared.Side.{Side}

@@ -33,7 +33,7 @@ use Rattle.blocks_places.specs.Places.{Place, places_of}
 use Rattle.late_finals.specs.Finals.{final_bytes, is_written}
 use Rattle.late_finals.proofs.Finals.{own_part, final_length}
 use Rattle.merge_labels.specs.Labels.{late_start}
-use Rattle.merge_sections.specs.Sections.{result_section}
+use Rattle.merge_verdict.specs.of_merge_sections.Sections.{result_section}
 use Rattle.merge_kept.specs.Kept.{kept}
 use Rattle.merge_kept.proofs.Kept.{kept_le}
 use Rattle.symbols_taken.specs.Used.{is_section_of, code_of}

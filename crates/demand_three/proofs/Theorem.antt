@@ -15,8 +15,8 @@ use Rattle.elf_readers.specs.Readers.{order_of}
 use Rattle.elf_relocations.specs.Relocations.{relocation}
 use Rattle.blocks_places.specs.Places.{Place, places_of}
 use Rattle.statics_table.specs.Statics.{name_head}
-use Rattle.carry_entries.specs.Entries.{Carrying, new_number, entry_symbol, carried_entry}
-use Rattle.carry_entries.specs.Carried.{carrying_c, carrying_a}
+use Rattle.demand_bytes.specs.of_carry_entries.Entries.{Carrying, new_number, entry_symbol, carried_entry}
+use Rattle.demand_bytes.specs.of_carry_entries.Carried.{carrying_c, carrying_a}
 use Rattle.demand_bytes.specs.of_merge_verdict.Verdict.{merge_verdict, MergePassed}
 use Rattle.demand_bytes.proofs.of_merge_verdict.Accepted.{merge_accepted}
 use Rattle.demand_bytes.specs.of_demand_clauses.Reading.{Reference, reference_at, referred_symbol, all_entries, Bytes}

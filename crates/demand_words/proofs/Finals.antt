@@ -32,8 +32,8 @@ use Rattle.late_finals.specs.Finals.{is_written}
 use Rattle.late_finals.proofs.Finals.{final_late, final_other, own_part, late_part_lem}
 use Rattle.merge_labels.specs.Labels.{late_start}
 use Rattle.merge_line_up.specs.Agrees.{Agrees}
-use Rattle.merge_sections.specs.Sections.{result_section}
-use Rattle.merge_sections.proofs.Sections.{target_holds}
+use Rattle.merge_verdict.specs.of_merge_sections.Sections.{result_section}
+use Rattle.merge_verdict.proofs.of_merge_sections.Sections.{target_holds}
 use Rattle.symbols_ids.specs.Entries.{late_place}
 use Rattle.demand_words.proofs.Ends.{span_ends_lem}
 

@@ -18,7 +18,7 @@ use Rattle.elf_readers.proofs.Readers.{code_there, codes_apart, contents_none}
 use Rattle.elf_symbols.specs.Symbols.{strtab}
 use Rattle.elf_check.specs.Sound.{Sound}
 use Rattle.blocks_places.specs.Places.{Place}
-use Rattle.merge_sections.specs.Sections.{result_section}
+use Rattle.merge_verdict.specs.of_merge_sections.Sections.{result_section}
 use Rattle.merge_kept.specs.Kept.{kept}
 use Rattle.merge_kept.proofs.Kept.{coded_kept}
 use Rattle.symbols_taken.specs.Used.{is_section_of}

@@ -35,8 +35,8 @@ use Rattle.late_finals.specs.Finals.{is_written}
 use Rattle.merge_labels.specs.Labels.{late_start}
 use Rattle.merge_line_up.specs.Agrees.{Agrees}
 use Rattle.merge_kept.specs.Kept.{kept}
-use Rattle.merge_sections.specs.Sections.{result_section}
-use Rattle.merge_sections.proofs.Sections.{section_length}
+use Rattle.merge_verdict.specs.of_merge_sections.Sections.{result_section}
+use Rattle.merge_verdict.proofs.of_merge_sections.Sections.{section_length}
 use Rattle.symbols_taken.specs.Used.{code_of}
 use Rattle.symbols_ids.specs.Entries.{late_place}
 use Rattle.carry_clash.specs.Clash.{is_stale, is_cut, joined_section, is_misjoined, clash_at, clash_finding}

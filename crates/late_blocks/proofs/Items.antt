@@ -19,7 +19,7 @@ use Rattle.base_fields.specs.declared.ByteOrder.{ByteOrder}
 use Rattle.base_fields.specs.declared.ByteOrder.TheVariants.{Big}
 use Rattle.base_fields.specs.Numbers.{encoded}
 use Rattle.base_fields.proofs.Numbers.{length_encoded}
-use Rattle.blocks_items.specs.Items.{dummy_count, dummy_word, jump_table}
+use Rattle.late_moves.specs.of_blocks_items.Items.{dummy_count, dummy_word, jump_table}
 use Rattle.late_dummies.specs.declared.Spot.{Spot}
 use Rattle.late_dummies.specs.declared.Spot.TheVariants.{At, Lost}
 use Rattle.late_dummies.specs.Spots.{pick_spot, spot}

@@ -7,7 +7,7 @@ ghost use Rattle.base_lists.specs.Windows.{spliced};
 ghost use Rattle.base_scope.specs.Limits.{FILE_LIMIT};
 ghost use Rattle.blocks_file.specs.Blocks.{block_count};
 ghost use Rattle.blocks_file.specs.Table.{Parsed};
-ghost use Rattle.blocks_items.specs.Items.{dummy_count, jump_table};
+ghost use Rattle.late_moves.specs.of_blocks_items.Items.{dummy_count, jump_table};
 ghost use Rattle.late_dummies.specs.Spots.{pick_spot};
 ghost use Rattle.late_dummies.specs.declared.Spot.TheVariants.{At, Lost};
 ghost use Rattle.late_moves.specs.Moves.{item_place, item_fault};
@@ -15,6 +15,7 @@ ghost use Rattle.late_blocks.specs.Items.{table_spot, place_words, items_spot};
 
 use base_fields::ByteOrder;
 use late_dummies::Spot;
+pub use late_moves::{blocks_items, blocks_places, late_length};
 
 // Whether dummy k of so many is the first of two or more.
 fn is_first_of_many(k: usize, count: usize) -> bool

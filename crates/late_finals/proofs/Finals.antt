@@ -21,7 +21,7 @@ use Rattle.blocks_spans.specs.Spans.{spans_of, span_at, span_end, is_covered, la
 use Rattle.blocks_spans.specs.Copied.{copied}
 use Rattle.blocks_spans.proofs.Spans.{end_spans, spans_ascend, span_last}
 use Rattle.blocks_spans.proofs.Copied.{length_copied, copied_compiled, copied_under}
-use Rattle.late_length.specs.Late.{has_late_step}
+use Rattle.late_moves.specs.of_late_length.Late.{has_late_step}
 use Rattle.late_moves.specs.Moves.{items, item_length, move_source, move_place, late_step_fault}
 use Rattle.late_moves.specs.Moved.{move_covers, zeroes, is_moved, moved_block, moved_item, moved_place, late_rodata}
 use Rattle.late_moves.proofs.Moved.{length_late, part_out, front_same, part_late, source_once, start_in, moved_hit, moved_is}

@@ -18,12 +18,12 @@ use Rattle.blocks_spans.specs.Spans.{spans_of, last_end}
 use Rattle.blocks_spans.specs.Copied.{copied}
 use Rattle.blocks_spans.proofs.Spans.{end_spans, spans_ascend}
 use Rattle.blocks_spans.proofs.Copied.{length_copied, copied_past}
-use Rattle.late_moves.specs.Moves.{late_step_fault}
-use Rattle.late_moves.specs.Moved.{moved_place, is_jump_word, late_byte, late_rodata}
-use Rattle.late_moves.proofs.Moved.{length_late, front_same}
-use Rattle.late_moves.proofs.Agree.{late_fault_agree, moved_place_agree, jump_word_agree, late_rest_agree}
-use Rattle.late_walk.specs.Table.{Walk, Moves}
-use Rattle.late_walk.proofs.Agree.{walk_agree, moves_agree}
+use Rattle.late_runs.specs.of_late_moves.Moves.{late_step_fault}
+use Rattle.late_runs.specs.of_late_moves.Moved.{moved_place, is_jump_word, late_byte, late_rodata}
+use Rattle.late_runs.proofs.of_late_moves.Moved.{length_late, front_same}
+use Rattle.late_runs.proofs.of_late_moves.Agree.{late_fault_agree, moved_place_agree, jump_word_agree, late_rest_agree}
+use Rattle.late_runs.specs.of_late_walk.Table.{Walk, Moves}
+use Rattle.late_runs.proofs.of_late_walk.Agree.{walk_agree, moves_agree}
 use Rattle.late_runs.specs.Runs.{run_at}
 use Rattle.late_runs.proofs.Runs.{IsRun}
 use Rattle.late_runs.proofs.Agree.{run_copied}

@@ -1,3 +1,4 @@
+pub use Rattle.late_runs.proofs.of_late_moves
 pub use Rattle.late_runs.proofs.of_late_lookups
-pub use Rattle.late_walk.proofs as of_late_walk
+pub use Rattle.late_runs.proofs.of_late_walk
 pub mod Copied

@@ -1,2 +1,4 @@
+pub use Rattle.late_runs.specs.of_late_moves
+pub use Rattle.late_runs.specs.of_late_length
 pub use Rattle.late_runs.specs.of_late_lookups
-pub use Rattle.late_walk.specs as of_late_walk
+pub use Rattle.late_runs.specs.of_late_walk

@@ -10,6 +10,9 @@ ghost use Rattle.blocks_places.specs.Lines.{line_count};
 ghost use Rattle.blocks_places.specs.Table.{places_in};
 ghost use Rattle.blocks_items.specs.Items.{late_bytes, late_length};
 
+pub use blocks_items;
+pub use blocks_places;
+
 // The late step as 11 to 13 leave it: whether there is one, the late length, where the late span starts in the assembled object's .late_rodata, and the end of the
 // last .rodata span.
 #[derive(Clone, Copy)]

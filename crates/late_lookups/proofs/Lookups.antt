@@ -17,13 +17,13 @@ use Rattle.base_fields.proofs.Numbers.{within_number}
 use Rattle.base_scope.specs.Limits.{LATE_ROW, LATE_WORDS}
 use Rattle.blocks_file.specs.Blocks.{block_count}
 use Rattle.blocks_file.proofs.Blocks.{count_high}
-use Rattle.blocks_places.specs.Places.{Place, live}
-use Rattle.blocks_items.specs.Items.{dummy_count, jump_table}
-use Rattle.late_length.proofs.Late.{bytes_live, bytes_off}
-use Rattle.late_moves.specs.Moves.{items, item_length, late_source, move_source, late_from, last_place, move_place}
-use Rattle.late_moves.specs.Moved.{is_word, starts, is_moved, moved_block, moved_item, moved_place, is_jump_word}
-use Rattle.late_moves.proofs.Moves.{length_dummy, length_table, items_live, item_live, item_index, source_next, source_mono, source_end, late_mono, late_next, last_next, last_low, place_low}
-use Rattle.late_moves.proofs.Moved.{word_yes, word_in, word_fourth, jump_yes, jump_hit, start_in, moved_yes, moved_is, moved_hit}
+use Rattle.late_walk.specs.of_blocks_places.Places.{Place, live}
+use Rattle.late_walk.specs.of_blocks_items.Items.{dummy_count, jump_table}
+use Rattle.late_walk.proofs.of_late_length.Late.{bytes_live, bytes_off}
+use Rattle.late_walk.specs.of_late_moves.Moves.{items, item_length, late_source, move_source, late_from, last_place, move_place}
+use Rattle.late_walk.specs.of_late_moves.Moved.{is_word, starts, is_moved, moved_block, moved_item, moved_place, is_jump_word}
+use Rattle.late_walk.proofs.of_late_moves.Moves.{length_dummy, length_table, items_live, item_live, item_index, source_next, source_mono, source_end, late_mono, late_next, last_next, last_low, place_low}
+use Rattle.late_walk.proofs.of_late_moves.Moved.{word_yes, word_in, word_fourth, jump_yes, jump_hit, start_in, moved_yes, moved_is, moved_hit}
 use Rattle.late_walk.specs.Steps.{live_dummies}
 use Rattle.late_walk.specs.Table.{dummy_index, late_row_bytes, late_row_of, row_table, block_words, word_table, Moves}
 use Rattle.late_walk.proofs.Table.{length_rows, within_row, within_field, within_block, within_dummy, index_next, index_mono, length_words}

@@ -1,8 +1,8 @@
 -- The place of a late offset, as one answer (document 01, "Late words"; refusals 16 and 20: "not moved"): the place, or that it is not moved.
 use Rattle.std.specs.Prelude.{ℕ, List}
 use Rattle.base_fields.specs.declared.ByteOrder.{ByteOrder}
-use Rattle.blocks_places.specs.Places.{Place}
-use Rattle.late_moves.specs.Moved.{is_moved, moved_place}
+use Rattle.late_walk.specs.of_blocks_places.Places.{Place}
+use Rattle.late_walk.specs.of_late_moves.Moved.{is_moved, moved_place}
 use Rattle.late_lookups.specs.declared.LatePlace.{LatePlace}
 use Rattle.late_lookups.specs.declared.LatePlace.TheVariants.{Moved, Unmoved}
 use Rattle.late_lookups.specs.Fields.{pick_late_place}

@@ -8,6 +8,8 @@ ghost use Rattle.base_scope.specs.Limits.{BLOCK_LIMIT, LATE_ROW};
 ghost use Rattle.late_lookups.specs.Fields.{SOURCE, late_field, row_dummies, row_bytes, row_past, place_in_row, is_start, offset_at, is_table_word, jump_at, AtRow, LateRows};
 
 use base_fields::ByteOrder;
+pub use late_walk;
+pub use late_walk::{blocks_items, late_length};
 
 // Where a late offset goes.
 #[derive(Clone, Copy)]

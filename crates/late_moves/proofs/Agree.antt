@@ -13,10 +13,10 @@ use Rattle.base_lists.specs.Rows.{row_in, column_in}
 use Rattle.base_lists.proofs.Rows.{row_same, column_same, has_row_same}
 use Rattle.base_fields.specs.declared.ByteOrder.{ByteOrder}
 use Rattle.base_scope.specs.Codes.{LATE_TARGET}
-use Rattle.blocks_file.specs.Blocks.{block_count}
-use Rattle.blocks_places.specs.Lines.{line_count}
-use Rattle.blocks_places.specs.Places.{Place, end_at}
-use Rattle.blocks_items.specs.Items.{dummy_count, dummy_word}
+use Rattle.late_length.specs.of_blocks_file.Blocks.{block_count}
+use Rattle.late_length.specs.of_blocks_places.Lines.{line_count}
+use Rattle.late_length.specs.of_blocks_places.Places.{Place, end_at}
+use Rattle.late_length.specs.of_blocks_items.Items.{dummy_count, dummy_word}
 use Rattle.late_dummies.specs.Dummies.{found, shifts, placed, is_lost}
 use Rattle.late_dummies.proofs.Dummies.{word_agree, found_agree, found_low}
 use Rattle.late_moves.specs.Moves.{is_dummy, first_of_many, item_length, item_place, item_fault, items, late_from, last_place, move_place, is_move_fault, late_step_fault, is_shifted}

@@ -18,10 +18,10 @@ use Rattle.base_text.specs.Decimals.{decimal_from}
 use Rattle.blocks_values.specs.Values.{every, is_digit, is_hex_digit, is_number, number_sound, space_at, space_in, label_sound, label_in, after_label, size_in, align_in, span_sound, line_sound, dummy_sound, jump_table_sound, empty_sound, any_sound}
 use Rattle.blocks_lines.specs.Lines.{feed_at, line_end, is_whole, line, next}
 use Rattle.blocks_lines.specs.Keys.{keys, key_name, repeats, value_sound, value_at, is_key_line}
-use Rattle.blocks_file.specs.Blocks.{skip_from, skip, count_from, group_size, line_behind, group_end, group_at, is_faulty, faulty_group, block_at, stops_at, block_count}
-use Rattle.blocks_places.specs.Lines.{span_value, labelled, span_size}
-use Rattle.blocks_places.specs.Places.{Place, nowhere, taken, place, untaken, live, end_at}
-use Rattle.blocks_items.specs.Items.{hex_digit, hex_from, dummy_count, dummy_line, dummy_word, jump_table}
+use Rattle.late_length.specs.of_blocks_file.Blocks.{skip_from, skip, count_from, group_size, line_behind, group_end, group_at, is_faulty, faulty_group, block_at, stops_at, block_count}
+use Rattle.late_length.specs.of_blocks_places.Lines.{span_value, labelled, span_size}
+use Rattle.late_length.specs.of_blocks_places.Places.{Place, nowhere, taken, place, untaken, live, end_at}
+use Rattle.late_length.specs.of_blocks_items.Items.{hex_digit, hex_from, dummy_count, dummy_line, dummy_word, jump_table}
 use Rattle.late_dummies.specs.Dummies.{word_at, found, shifts, placed}
 use Rattle.late_moves.specs.Moves.{is_dummy, first_of_many, item_length, item_place, item_fault, last_from, items, late_source, move_source, late_from, last_place, move_place, is_shifted}
 use Rattle.late_moves.specs.Moved.{is_in, is_word, move_covers, zeroes, late_byte}

@@ -8,9 +8,9 @@ use native.Mathlib.Omega.{arith}
 use lib.Seq.{ext_get_or}
 use Rattle.base_lists.proofs.Ranges.{by-test, by-lt}
 use Rattle.base_fields.specs.declared.ByteOrder.{ByteOrder}
-use Rattle.blocks_file.specs.Blocks.{block_count}
-use Rattle.blocks_places.specs.Places.{Place}
-use Rattle.blocks_items.specs.Items.{dummy_count, jump_table}
+use Rattle.late_length.specs.of_blocks_file.Blocks.{block_count}
+use Rattle.late_length.specs.of_blocks_places.Places.{Place}
+use Rattle.late_length.specs.of_blocks_items.Items.{dummy_count, jump_table}
 use Rattle.late_length.specs.Late.{has_late_step}
 use Rattle.late_length.proofs.Late.{bytes_live, step_none}
 use Rattle.late_moves.specs.Moves.{item_length, items, move_place, is_shifted}

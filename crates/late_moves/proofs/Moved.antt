@@ -14,10 +14,10 @@ use Rattle.base_lists.specs.Rows.{has_row}
 use Rattle.base_lists.proofs.Rows.{Hit, row_yes, row_none, none_row, row_hit, row_is, Before, by_order}
 use Rattle.base_fields.specs.declared.ByteOrder.{ByteOrder}
 use Rattle.base_scope.specs.Codes.{LATE_TARGET}
-use Rattle.blocks_file.specs.Blocks.{block_count}
-use Rattle.blocks_places.specs.Lines.{line_count}
-use Rattle.blocks_places.specs.Places.{Place, live, end_at}
-use Rattle.blocks_items.specs.Items.{dummy_count, jump_table}
+use Rattle.late_length.specs.of_blocks_file.Blocks.{block_count}
+use Rattle.late_length.specs.of_blocks_places.Lines.{line_count}
+use Rattle.late_length.specs.of_blocks_places.Places.{Place, live, end_at}
+use Rattle.late_length.specs.of_blocks_items.Items.{dummy_count, jump_table}
 use Rattle.late_moves.specs.Moves.{item_length, items, move_source, last_place, move_place, late_step_fault, is_shifted}
 use Rattle.late_moves.specs.Moved.{is_in, is_word, table_word, is_jump_word, move_covers, zeroes, starts, is_moved, moved_block, moved_item, place_in_move, moved_place, offset_in_move, covered_by, late_byte, late_rodata}
 use Rattle.late_moves.proofs.Moves.{length_table, items_live, item_live, sources_ascend, search_past, places_ascend, last_past, place_past, shifted_low, place_inside}

@@ -17,10 +17,10 @@ use Rattle.base_lists.specs.Rows.{has_index, row_in}
 use Rattle.base_lists.proofs.Rows.{index_yes, Before}
 use Rattle.base_fields.specs.declared.ByteOrder.{ByteOrder}
 use Rattle.base_scope.specs.Codes.{LATE_TARGET}
-use Rattle.blocks_file.specs.Blocks.{block_count}
-use Rattle.blocks_places.specs.Lines.{line_count}
-use Rattle.blocks_places.specs.Places.{Place, live, end_at}
-use Rattle.blocks_items.specs.Items.{dummy_count, dummy_word, jump_table, late_bytes}
+use Rattle.late_length.specs.of_blocks_file.Blocks.{block_count}
+use Rattle.late_length.specs.of_blocks_places.Lines.{line_count}
+use Rattle.late_length.specs.of_blocks_places.Places.{Place, live, end_at}
+use Rattle.late_length.specs.of_blocks_items.Items.{dummy_count, dummy_word, jump_table, late_bytes}
 use Rattle.late_length.proofs.Late.{bytes_live}
 use Rattle.late_dummies.specs.Dummies.{found, shifts, placed, is_lost}
 use Rattle.late_dummies.proofs.Dummies.{found_low, placed_past, placed_fits, placed_shifted}

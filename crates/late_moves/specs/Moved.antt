@@ -4,9 +4,9 @@ use Rattle.std.specs.Prelude.{ℕ, ◌+◌, ◌-◌, ◌%◌, Bool, true, cond, 
 use Rattle.base_lists.specs.Ranges.{select}
 use Rattle.base_lists.specs.Rows.{row_in, column_in, has_row}
 use Rattle.base_fields.specs.declared.ByteOrder.{ByteOrder}
-use Rattle.blocks_file.specs.Blocks.{block_count}
-use Rattle.blocks_places.specs.Places.{Place}
-use Rattle.blocks_items.specs.Items.{dummy_count}
+use Rattle.late_length.specs.of_blocks_file.Blocks.{block_count}
+use Rattle.late_length.specs.of_blocks_places.Places.{Place}
+use Rattle.late_length.specs.of_blocks_items.Items.{dummy_count}
 use Rattle.late_moves.specs.Moves.{items, item_length, move_source, move_place, is_shifted}
 
 -- x is one of the n bytes from a on

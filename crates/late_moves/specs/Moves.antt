@@ -6,10 +6,10 @@ use Rattle.base_lists.specs.Ranges.{sum}
 use Rattle.base_lists.specs.Rows.{row_in}
 use Rattle.base_fields.specs.declared.ByteOrder.{ByteOrder}
 use Rattle.base_scope.specs.Codes.{LATE_TARGET}
-use Rattle.blocks_file.specs.Blocks.{block_count}
-use Rattle.blocks_places.specs.Lines.{line_count}
-use Rattle.blocks_places.specs.Places.{Place, live, end_at}
-use Rattle.blocks_items.specs.Items.{dummy_count, dummy_word, jump_table, late_bytes}
+use Rattle.late_length.specs.of_blocks_file.Blocks.{block_count}
+use Rattle.late_length.specs.of_blocks_places.Lines.{line_count}
+use Rattle.late_length.specs.of_blocks_places.Places.{Place, live, end_at}
+use Rattle.late_length.specs.of_blocks_items.Items.{dummy_count, dummy_word, jump_table, late_bytes}
 use Rattle.late_dummies.specs.Dummies.{shifts, placed, is_lost}
 
 module _ (B : List ℕ) where

@@ -16,10 +16,10 @@ use Rattle.blocks_file.specs.Blocks.{block_count}
 use Rattle.blocks_places.specs.Lines.{line_count}
 use Rattle.blocks_places.specs.Places.{Place, end_at}
 use Rattle.blocks_items.specs.Items.{late_bytes, late_length}
-use Rattle.late_moves.specs.Moves.{items, item_length, late_source, move_source, move_place, is_shifted, late_step_fault}
-use Rattle.late_moves.specs.Moved.{late_byte, late_rodata}
-use Rattle.late_moves.proofs.Moves.{source_end, place_inside}
-use Rattle.late_moves.proofs.Moved.{length_late, late_at_lem}
+use Rattle.late_runs.specs.of_late_moves.Moves.{items, item_length, late_source, move_source, move_place, is_shifted, late_step_fault}
+use Rattle.late_runs.specs.of_late_moves.Moved.{late_byte, late_rodata}
+use Rattle.late_runs.proofs.of_late_moves.Moves.{source_end, place_inside}
+use Rattle.late_runs.proofs.of_late_moves.Moved.{length_late, late_at_lem}
 use Rattle.late_runs.specs.declared.Run.{Run}
 use Rattle.late_runs.specs.declared.Run.TheVariants.{Kept, Late, Zeros}
 use Rattle.late_runs.specs.Runs.{run_length, run_byte, run_block, run_item, gap_run, item_run, run_at}

@@ -16,8 +16,8 @@ use Rattle.base_scope.specs.Codes.{LATE_TARGET}
 use Rattle.blocks_file.specs.Blocks.{block_count}
 use Rattle.blocks_places.specs.Lines.{line_count}
 use Rattle.blocks_places.specs.Places.{Place, end_at}
-use Rattle.late_moves.specs.Moved.{late_rodata}
-use Rattle.late_moves.proofs.Moved.{length_late}
+use Rattle.late_runs.specs.of_late_moves.Moved.{late_rodata}
+use Rattle.late_runs.proofs.of_late_moves.Moved.{length_late}
 use Rattle.late_runs.specs.declared.Run.{Run}
 use Rattle.late_runs.specs.declared.Run.TheVariants.{Kept, Late, Zeros}
 use Rattle.late_runs.specs.Runs.{run_length, run_at}

@@ -12,7 +12,7 @@ use Rattle.blocks_file.specs.Table.{Parsed}
 use Rattle.blocks_places.specs.Lines.{line_count}
 use Rattle.blocks_places.specs.Places.{Place, end_at}
 use Rattle.blocks_items.specs.Items.{late_length}
-use Rattle.late_walk.specs.Table.{Moves}
+use Rattle.late_runs.specs.of_late_walk.Table.{Moves}
 use Rattle.late_runs.specs.declared.Run.{Run}
 use Rattle.late_runs.specs.declared.Run.TheVariants.{Kept, Late, Zeros}
 use Rattle.late_runs.specs.Runs.{run_length}

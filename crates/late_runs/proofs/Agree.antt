@@ -9,11 +9,11 @@ use Rattle.base_lists.proofs.Ranges.{first_ext}
 use Rattle.base_fields.specs.declared.ByteOrder.{ByteOrder}
 use Rattle.base_scope.specs.Codes.{LATE_TARGET}
 use Rattle.blocks_file.specs.Blocks.{block_count}
-use Rattle.blocks_places.specs.Lines.{line_count}
-use Rattle.blocks_places.specs.Places.{Place, end_at}
-use Rattle.late_moves.specs.Moves.{items, item_length, late_from, move_place}
-use Rattle.late_moves.specs.Moved.{late_byte}
-use Rattle.late_moves.proofs.Agree.{late_agree, place_agree, shifted_agree}
+use Rattle.late_lookups.specs.of_blocks_places.Lines.{line_count}
+use Rattle.late_lookups.specs.of_blocks_places.Places.{Place, end_at}
+use Rattle.late_lookups.specs.of_late_moves.Moves.{items, item_length, late_from, move_place}
+use Rattle.late_lookups.specs.of_late_moves.Moved.{late_byte}
+use Rattle.late_lookups.proofs.of_late_moves.Agree.{late_agree, place_agree, shifted_agree}
 use Rattle.late_runs.specs.Runs.{run_block, run_item, gap_run, item_run, run_at}
 use Rattle.late_runs.proofs.Runs.{IsRun, run_is}
 

@@ -13,14 +13,14 @@ use Rattle.base_lists.proofs.Ranges.{by-lt, both, first_more, first_high, none_f
 use Rattle.base_fields.specs.declared.ByteOrder.{ByteOrder}
 use Rattle.base_scope.specs.Limits.{FILE_LIMIT}
 use Rattle.blocks_file.specs.Blocks.{block_count}
-use Rattle.blocks_places.specs.Places.{Place, live}
-use Rattle.blocks_items.specs.Items.{dummy_count, dummy_word, jump_table, late_bytes, late_length}
+use Rattle.late_lookups.specs.of_blocks_places.Places.{Place, live}
+use Rattle.late_lookups.specs.of_blocks_items.Items.{dummy_count, dummy_word, jump_table, late_bytes, late_length}
 use Rattle.late_dummies.specs.Dummies.{word_at, shifts, placed, is_lost}
 use Rattle.late_dummies.proofs.Dummies.{shift_told}
-use Rattle.late_moves.specs.Moves.{first_of_many, items, item_length, late_source, move_source, late_from, last_place, move_place, is_move_fault, is_shifted}
-use Rattle.late_moves.proofs.Moves.{dummy_yes, length_dummy, length_table, place_dummy, place_table_lem, fault_dummy, items_live, item_live, block_source_next, late_next, last_zero, last_next, places_ascend, sound_item, late_inside_lem, place_inside}
-use Rattle.late_walk.specs.Steps.{live_dummies}
-use Rattle.late_walk.proofs.Table.{index_next}
+use Rattle.late_lookups.specs.of_late_moves.Moves.{first_of_many, items, item_length, late_source, move_source, late_from, last_place, move_place, is_move_fault, is_shifted}
+use Rattle.late_lookups.proofs.of_late_moves.Moves.{dummy_yes, length_dummy, length_table, place_dummy, place_table_lem, fault_dummy, items_live, item_live, block_source_next, late_next, last_zero, last_next, places_ascend, sound_item, late_inside_lem, place_inside}
+use Rattle.late_lookups.specs.of_late_walk.Steps.{live_dummies}
+use Rattle.late_lookups.proofs.of_late_walk.Table.{index_next}
 use Rattle.late_lookups.specs.Fields.{late_field, row_dummies, is_past, row_past, LateRows}
 use Rattle.late_lookups.proofs.Lookups.{field_source, field_index, field_last, word_place, late_rows}
 use Rattle.late_runs.specs.Runs.{run_block, run_item, gap_run, item_run, run_at}

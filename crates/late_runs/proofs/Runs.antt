@@ -14,12 +14,12 @@ use Rattle.base_lists.proofs.Rows.{Before, by_order}
 use Rattle.base_fields.specs.declared.ByteOrder.{ByteOrder}
 use Rattle.base_scope.specs.Codes.{LATE_TARGET}
 use Rattle.blocks_file.specs.Blocks.{block_count}
-use Rattle.blocks_places.specs.Lines.{line_count}
-use Rattle.blocks_places.specs.Places.{Place, end_at}
-use Rattle.late_moves.specs.Moves.{items, item_length, move_source, late_from, last_place, move_place, is_shifted}
-use Rattle.late_moves.specs.Moved.{move_covers, zeroes, late_byte}
-use Rattle.late_moves.proofs.Moves.{late_zero, late_next, last_zero, last_next, place_end, search_past, places_ascend}
-use Rattle.late_moves.proofs.Moved.{cover_yes, cover_low, cover_high, zero_in, zero_yes, covered_byte, zeroed_byte, other_byte}
+use Rattle.late_lookups.specs.of_blocks_places.Lines.{line_count}
+use Rattle.late_lookups.specs.of_blocks_places.Places.{Place, end_at}
+use Rattle.late_lookups.specs.of_late_moves.Moves.{items, item_length, move_source, late_from, last_place, move_place, is_shifted}
+use Rattle.late_lookups.specs.of_late_moves.Moved.{move_covers, zeroes, late_byte}
+use Rattle.late_lookups.proofs.of_late_moves.Moves.{late_zero, late_next, last_zero, last_next, place_end, search_past, places_ascend}
+use Rattle.late_lookups.proofs.of_late_moves.Moved.{cover_yes, cover_low, cover_high, zero_in, zero_yes, covered_byte, zeroed_byte, other_byte}
 use Rattle.late_runs.specs.declared.Run.{Run}
 use Rattle.late_runs.specs.declared.Run.TheVariants.{Kept, Late, Zeros}
 use Rattle.late_runs.specs.Runs.{run_length, run_byte, run_block, run_item, gap_run, item_run, run_at}

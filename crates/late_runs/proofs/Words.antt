@@ -13,7 +13,7 @@ use Rattle.base_lists.proofs.Halves.{GoesOn}
 use Rattle.base_fields.specs.declared.ByteOrder.{ByteOrder}
 use Rattle.base_fields.specs.declared.ByteOrder.TheVariants.{Big}
 use Rattle.base_fields.specs.Numbers.{number}
-use Rattle.blocks_items.specs.Items.{dummy_word}
+use Rattle.late_lookups.specs.of_blocks_items.Items.{dummy_word}
 use Rattle.late_dummies.specs.Dummies.{word_at}
 use Rattle.base_scope.specs.Limits.{LATE_WORDS}
 use Rattle.late_lookups.specs.Fields.{late_field, row_dummies, row_past}

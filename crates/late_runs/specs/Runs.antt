@@ -4,8 +4,8 @@ use Rattle.std.specs.Prelude.{ℕ, ◌+◌, ◌-◌, Bool, true, false, List, le
 use Rattle.base_lists.specs.Ranges.{first}
 use Rattle.base_fields.specs.declared.ByteOrder.{ByteOrder}
 use Rattle.blocks_file.specs.Blocks.{block_count}
-use Rattle.blocks_places.specs.Places.{Place}
-use Rattle.late_moves.specs.Moves.{items, item_length, move_source, late_from, move_place, is_shifted}
+use Rattle.late_lookups.specs.of_blocks_places.Places.{Place}
+use Rattle.late_lookups.specs.of_late_moves.Moves.{items, item_length, move_source, late_from, move_place, is_shifted}
 use Rattle.late_runs.specs.declared.Run.{Run}
 use Rattle.late_runs.specs.declared.Run.TheVariants.{Kept, Late, Zeros}
 

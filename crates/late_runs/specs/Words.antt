@@ -7,11 +7,11 @@ use Rattle.base_scope.specs.Codes.{LATE_TARGET}
 use Rattle.base_scope.specs.Limits.{FILE_LIMIT}
 use Rattle.blocks_file.specs.Blocks.{block_count}
 use Rattle.blocks_file.specs.Table.{Parsed}
-use Rattle.blocks_places.specs.Lines.{line_count}
-use Rattle.blocks_places.specs.Places.{Place, end_at}
-use Rattle.blocks_items.specs.Items.{dummy_count, dummy_word, late_length}
+use Rattle.late_lookups.specs.of_blocks_places.Lines.{line_count}
+use Rattle.late_lookups.specs.of_blocks_places.Places.{Place, end_at}
+use Rattle.late_lookups.specs.of_blocks_items.Items.{dummy_count, dummy_word, late_length}
 use Rattle.late_dummies.specs.Dummies.{word_at}
-use Rattle.late_walk.specs.Table.{Moves}
+use Rattle.late_lookups.specs.of_late_walk.Table.{Moves}
 use Rattle.late_lookups.specs.Fields.{SOURCE, DUMMIES, LAST, late_field, late_word, row_dummies, row_past, AtRow}
 use Rattle.late_runs.specs.declared.Run.{Run}
 use Rattle.late_runs.specs.declared.Run.TheVariants.{Kept, Late, Zeros}

@@ -7,12 +7,14 @@ ghost use Rattle.std.specs.Prelude.{◌≡◌, ◌+◌, ◌^◌, ◌≤◌, ◌<
 ghost use Rattle.base_scope.specs.Limits.{FILE_LIMIT};
 ghost use Rattle.blocks_file.specs.Blocks.{block_count};
 ghost use Rattle.blocks_file.specs.Table.{Parsed};
-ghost use Rattle.blocks_items.specs.Items.{dummy_count};
+ghost use Rattle.late_lookups.specs.of_blocks_items.Items.{dummy_count};
 ghost use Rattle.late_lookups.specs.Fields.{SOURCE, LAST, late_field, row_dummies, row_past, AtRow};
 ghost use Rattle.late_runs.specs.Words.{dummy_place, dummy_over, moved_on, gap_to, word_run, table_run, row_run, run_read, Rising, AtWord, InHand};
 
 use base_fields::ByteOrder;
 pub use late_lookups;
+use late_lookups::blocks_items;
+pub use late_lookups::{late_length, late_walk};
 
 // A run of bytes of one kind: so many bytes as they were; A's late bytes from an offset on, so many; so many zeros.
 #[derive(Clone, Copy)]

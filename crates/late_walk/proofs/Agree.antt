@@ -12,10 +12,10 @@ use Rattle.base_fields.specs.declared.ByteOrder.TheVariants.{Big}
 use Rattle.base_fields.specs.Numbers.{encoded}
 use Rattle.base_scope.specs.declared.Finding.{Finding}
 use Rattle.base_scope.specs.Codes.{LATE_TARGET}
-use Rattle.blocks_places.specs.Lines.{line_count}
-use Rattle.blocks_places.specs.Places.{Place, end_at}
-use Rattle.late_moves.specs.Moves.{late_from}
-use Rattle.late_moves.proofs.Agree.{late_agree, place_agree, faulty_agree, late_fault_agree}
+use Rattle.late_blocks.specs.of_blocks_places.Lines.{line_count}
+use Rattle.late_blocks.specs.of_blocks_places.Places.{Place, end_at}
+use Rattle.late_blocks.specs.of_late_moves.Moves.{late_from}
+use Rattle.late_blocks.proofs.of_late_moves.Agree.{late_agree, place_agree, faulty_agree, late_fault_agree}
 use Rattle.late_blocks.specs.Items.{place_from, fault_from, sound_items, place_words}
 use Rattle.late_walk.specs.Steps.{live_dummies}
 use Rattle.late_walk.specs.Table.{late_row_bytes, late_row_of, row_table, block_words, word_table, filled, Walk, Moves}

@@ -10,11 +10,11 @@ use Rattle.base_lists.specs.Windows.{spliced}
 use Rattle.base_lists.proofs.Ranges.{first_end}
 use Rattle.base_lists.proofs.Windows.{spliced_nil}
 use Rattle.base_fields.specs.declared.ByteOrder.{ByteOrder}
-use Rattle.blocks_items.specs.Items.{dummy_count, jump_table}
-use Rattle.blocks_places.specs.Places.{Place, live}
-use Rattle.late_length.proofs.Late.{bytes_live, bytes_off}
-use Rattle.late_moves.specs.Moves.{last_from, items}
-use Rattle.late_moves.proofs.Moves.{last_from_zero, items_live, items_off}
+use Rattle.late_blocks.specs.of_blocks_items.Items.{dummy_count, jump_table}
+use Rattle.late_blocks.specs.of_blocks_places.Places.{Place, live}
+use Rattle.late_blocks.proofs.of_late_length.Late.{bytes_live, bytes_off}
+use Rattle.late_blocks.specs.of_late_moves.Moves.{last_from, items}
+use Rattle.late_blocks.proofs.of_late_moves.Moves.{last_from_zero, items_live, items_off}
 use Rattle.late_blocks.specs.Items.{fault_from, sound_items, place_words}
 use Rattle.late_blocks.proofs.Items.{words_zero}
 use Rattle.late_walk.specs.declared.LateRow.{LateRow}

@@ -19,11 +19,11 @@ use Rattle.base_fields.proofs.Numbers.{length_encoded}
 use Rattle.base_scope.specs.Limits.{FILE_LIMIT, BLOCK_LIMIT, DUMMY_LIMIT, LATE_ROW, LATE_WORDS}
 use Rattle.blocks_file.specs.Blocks.{block_count}
 use Rattle.blocks_file.proofs.Blocks.{counted_inside}
-use Rattle.blocks_places.specs.Places.{Place, live}
-use Rattle.blocks_items.specs.Items.{dummy_count}
-use Rattle.blocks_items.proofs.DummyLines.{dummies_few}
-use Rattle.late_moves.specs.Moves.{items, late_from, last_place, move_place, is_move_fault, late_step_fault}
-use Rattle.late_moves.proofs.Moves.{items_live, sound_item}
+use Rattle.late_blocks.specs.of_blocks_places.Places.{Place, live}
+use Rattle.late_blocks.specs.of_blocks_items.Items.{dummy_count}
+use Rattle.late_blocks.proofs.of_blocks_items.DummyLines.{dummies_few}
+use Rattle.late_blocks.specs.of_late_moves.Moves.{items, late_from, last_place, move_place, is_move_fault, late_step_fault}
+use Rattle.late_blocks.proofs.of_late_moves.Moves.{items_live, sound_item}
 use Rattle.late_blocks.specs.Items.{place_from, fault_from, sound_items, place_words}
 use Rattle.late_walk.specs.declared.LateRow.{LateRow}
 use Rattle.late_walk.specs.Steps.{live_dummies}

@@ -20,11 +20,11 @@ use Rattle.base_scope.specs.Limits.{FILE_LIMIT, BLOCK_LIMIT, DUMMY_LIMIT, LATE_R
 use Rattle.base_scope.specs.Refusals.{pick_finding, found_below}
 use Rattle.blocks_file.specs.Blocks.{block_count}
 use Rattle.blocks_file.proofs.Blocks.{count_high}
-use Rattle.blocks_places.specs.Places.{Place}
-use Rattle.blocks_items.specs.Items.{late_bytes, late_length}
-use Rattle.late_length.specs.declared.LateStep.{LateStep}
-use Rattle.late_moves.specs.Moves.{last_from, items, late_source, late_from, last_place, is_move_fault, late_step_fault}
-use Rattle.late_moves.proofs.Moves.{source_zero, source_next, late_zero, late_next}
+use Rattle.late_blocks.specs.of_blocks_places.Places.{Place}
+use Rattle.late_blocks.specs.of_blocks_items.Items.{late_bytes, late_length}
+use Rattle.late_blocks.specs.of_late_length.declared.LateStep.{LateStep}
+use Rattle.late_blocks.specs.of_late_moves.Moves.{last_from, items, late_source, late_from, last_place, is_move_fault, late_step_fault}
+use Rattle.late_blocks.proofs.of_late_moves.Moves.{source_zero, source_next, late_zero, late_next}
 use Rattle.late_walk.specs.declared.LateRow.{LateRow}
 use Rattle.late_walk.specs.declared.BlockStep.{BlockStep}
 use Rattle.late_walk.specs.declared.BlockStep.TheVariants.{Next, Stop}

@@ -4,10 +4,10 @@ use Rattle.base_fields.specs.declared.ByteOrder.{ByteOrder}
 use Rattle.base_scope.specs.Limits.{FILE_LIMIT, DUMMY_LIMIT, PLACE_ROW, LATE_WORDS}
 use Rattle.blocks_file.specs.Blocks.{block_count}
 use Rattle.blocks_file.specs.Table.{Parsed}
-use Rattle.blocks_places.specs.Lines.{line_count}
-use Rattle.blocks_places.specs.Places.{Place, live}
-use Rattle.blocks_items.specs.Items.{dummy_count, late_bytes}
-use Rattle.late_moves.specs.Moves.{last_from, items}
+use Rattle.late_blocks.specs.of_blocks_places.Lines.{line_count}
+use Rattle.late_blocks.specs.of_blocks_places.Places.{Place, live}
+use Rattle.late_blocks.specs.of_blocks_items.Items.{dummy_count, late_bytes}
+use Rattle.late_blocks.specs.of_late_moves.Moves.{last_from, items}
 use Rattle.late_blocks.specs.Items.{sound_items}
 use Rattle.late_walk.specs.declared.LateRow.{LateRow}
 use Rattle.late_walk.specs.declared.BlockStep.{BlockStep}

@@ -13,11 +13,11 @@ use Rattle.base_scope.specs.Limits.{FILE_LIMIT, PLACE_ROW, LATE_WORDS}
 use Rattle.base_scope.specs.Refusals.{found_below}
 use Rattle.blocks_file.specs.Blocks.{block_count}
 use Rattle.blocks_file.specs.Table.{Parsed}
-use Rattle.blocks_places.specs.Lines.{line_count}
-use Rattle.blocks_places.specs.Places.{Place, end_at}
-use Rattle.blocks_items.specs.Items.{late_length}
-use Rattle.late_length.specs.declared.LateStep.{LateStep}
-use Rattle.late_moves.specs.Moves.{late_source, late_from, late_step_fault}
+use Rattle.late_blocks.specs.of_blocks_places.Lines.{line_count}
+use Rattle.late_blocks.specs.of_blocks_places.Places.{Place, end_at}
+use Rattle.late_blocks.specs.of_blocks_items.Items.{late_length}
+use Rattle.late_blocks.specs.of_late_length.declared.LateStep.{LateStep}
+use Rattle.late_blocks.specs.of_late_moves.Moves.{late_source, late_from, late_step_fault}
 use Rattle.late_blocks.specs.Items.{place_words}
 use Rattle.late_walk.specs.declared.LateRow.{LateRow}
 use Rattle.late_walk.specs.Steps.{live_dummies}

@@ -5,16 +5,18 @@
 ghost use Rattle.std.specs.Prelude.{◌≡◌, ◌+◌, ◌*◌, ◌≤◌, ◌<◌, length};
 ghost use Rattle.base_lists.specs.Windows.{spliced};
 ghost use Rattle.base_scope.specs.Limits.{FILE_LIMIT, BLOCK_LIMIT, DUMMY_LIMIT, LATE_ROW, LATE_WORDS, LATE_TABLE};
-ghost use Rattle.blocks_places.specs.Lines.{line_count};
-ghost use Rattle.blocks_places.specs.Table.{places_in};
+ghost use Rattle.late_blocks.specs.of_blocks_places.Lines.{line_count};
+ghost use Rattle.late_blocks.specs.of_blocks_places.Table.{places_in};
 ghost use Rattle.late_blocks.specs.Items.{place_words};
 ghost use Rattle.late_walk.specs.Steps.{live_dummies, block_step, AtBlock};
 ghost use Rattle.late_walk.specs.Table.{late_row_bytes, Ready, Walk};
 
 use base_fields::ByteOrder;
 use base_scope::Finding;
+use late_blocks::blocks_places;
+use late_blocks::late_length::LateStep;
+pub use late_blocks::{blocks_items, late_length};
 use late_dummies::Spot;
-use late_length::LateStep;
 
 // What stands before a block: the late offset, the number of dummies and the last place.
 #[derive(Clone, Copy)]

@@ -31,7 +31,7 @@ use Rattle.merge_verdict.specs.of_symbols_stage.declared.Counts.{Counts}
 use Rattle.merge_verdict.specs.of_symbols_stage.declared.SymbolsEnd.{SymbolsEnd}
 use Rattle.merge_verdict.specs.of_symbols_stage.declared.SymbolsEnd.TheVariants.{Numbered, Refused as Unnumbered}
 use Rattle.merge_verdict.specs.of_symbols_stage.End.{end_verdict, SymbolsHeld, StageEnd}
-use Rattle.carry_entries.specs.Carried.{carry_verdict}
+use Rattle.merge_verdict.specs.of_carry_entries.Carried.{carry_verdict}
 use Rattle.write_merged.specs.of_carry_stage.declared.Carry.{Carry}
 use Rattle.write_merged.specs.of_carry_stage.Tables.{HOMES_AT}
 use Rattle.write_merged.specs.of_carry_stage.Carry.{SidesRead, CarryMade, CarryJudged}

@@ -1,1 +1,2 @@
+pub use Rattle.elf_check.proofs as of_elf_check
 pub mod Reading

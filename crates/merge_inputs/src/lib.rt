@@ -11,6 +11,7 @@ ghost use Rattle.merge_inputs.specs.Taken.{inputs_of, Took};
 
 use base_answers::Verdict;
 use base_fields::ByteOrder;
+pub use elf_check;
 use elf_check::View;
 use open_inputs::Opened;
 

@@ -21,8 +21,8 @@ use Rattle.elf_readers.specs.Readers.{coded_section, coded_contents}
 use Rattle.blocks_places.specs.Lines.{line_count}
 use Rattle.blocks_places.specs.Places.{Place, taken}
 use Rattle.blocks_items.specs.Items.{late_length}
-use Rattle.late_length.specs.Late.{has_late_step}
-use Rattle.late_length.proofs.Late.{step_length}
+use Rattle.merge_missing.specs.of_late_length.Late.{has_late_step}
+use Rattle.merge_missing.proofs.of_late_length.Late.{step_length}
 use Rattle.merge_missing.specs.Missing.{missing_verdict}
 use Rattle.merge_missing.specs.Complete.{Complete}
 use Rattle.merge_missing.proofs.Complete.{complete_of}

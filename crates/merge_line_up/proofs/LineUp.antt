@@ -22,9 +22,9 @@ use Rattle.blocks_places.specs.Places.{Place}
 use Rattle.blocks_items.specs.Items.{late_length}
 use Rattle.blocks_spans.specs.Table.{span_ends}
 use Rattle.blocks_spans.proofs.Table.{ends_code}
-use Rattle.late_length.specs.declared.LateStep.{LateStep}
-use Rattle.late_length.specs.Late.{has_late_step}
-use Rattle.late_length.proofs.Late.{step_length}
+use Rattle.merge_missing.specs.of_late_length.declared.LateStep.{LateStep}
+use Rattle.merge_missing.specs.of_late_length.Late.{has_late_step}
+use Rattle.merge_missing.proofs.of_late_length.Late.{step_length}
 use Rattle.merge_missing.specs.Missing.{missing_verdict}
 use Rattle.merge_labels.specs.declared.Label.{Label}
 use Rattle.merge_labels.specs.Labels.{label_of, label_fault, late_label, late_start, late_lined}

@@ -6,7 +6,7 @@ use Rattle.elf_readers.specs.Readers.{coded_contents}
 use Rattle.blocks_places.specs.Lines.{line_count}
 use Rattle.blocks_places.specs.Places.{Place, taken}
 use Rattle.blocks_items.specs.Items.{late_length}
-use Rattle.late_length.specs.Late.{has_late_step}
+use Rattle.merge_missing.specs.of_late_length.Late.{has_late_step}
 use Rattle.merge_missing.specs.Complete.{Complete}
 use Rattle.merge_labels.specs.Labels.{is_lined, late_start, late_lined}
 

@@ -4,7 +4,7 @@ use Rattle.base_fields.specs.declared.ByteOrder.{ByteOrder}
 use Rattle.base_answers.specs.declared.Verdict.{Verdict}
 use Rattle.base_answers.specs.declared.Verdict.TheVariants.{Passed, Refused}
 use Rattle.blocks_places.specs.Places.{Place}
-use Rattle.late_length.specs.declared.LateStep.{LateStep}
+use Rattle.merge_missing.specs.of_late_length.declared.LateStep.{LateStep}
 use Rattle.merge_line_up.specs.declared.LinedUp.{LinedUp}
 use Rattle.merge_line_up.specs.declared.LinedUp.TheVariants.{Lined, Refused as Unlined}
 use Rattle.merge_line_up.specs.LineUp.{line_up_verdict, late_step_of}

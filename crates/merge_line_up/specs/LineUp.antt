@@ -12,8 +12,8 @@ use Rattle.base_answers.specs.Verdicts.{also, finding_verdict}
 use Rattle.blocks_places.specs.Places.{Place}
 use Rattle.blocks_items.specs.Items.{late_length}
 use Rattle.blocks_spans.specs.Spans.{spans_of, last_end}
-use Rattle.late_length.specs.declared.LateStep.{LateStep}
-use Rattle.late_length.specs.Late.{has_late_step}
+use Rattle.merge_missing.specs.of_late_length.declared.LateStep.{LateStep}
+use Rattle.merge_missing.specs.of_late_length.Late.{has_late_step}
 use Rattle.merge_missing.specs.Missing.{missing_verdict}
 use Rattle.merge_labels.specs.Labels.{label_fault, late_start, late_lined}
 

@@ -11,7 +11,7 @@ ghost use Rattle.blocks_file.specs.Blocks.{block_count};
 ghost use Rattle.blocks_places.specs.Lines.{line_count};
 ghost use Rattle.blocks_places.specs.Table.{places_in, Laid};
 ghost use Rattle.merge_labels.specs.Labels.{label_of, late_label};
-ghost use Rattle.merge_inputs.specs.Taken.{InputsRead};
+ghost use Rattle.merge_missing.specs.of_merge_inputs.Taken.{InputsRead};
 ghost use Rattle.merge_line_up.specs.LineUp.{late_label_fault, labels_verdict};
 ghost use Rattle.merge_line_up.specs.Answer.{LinesUp};
 
@@ -19,9 +19,11 @@ use base_answers::Verdict;
 use base_fields::ByteOrder;
 use base_scope::Finding;
 use elf_check::View;
-use late_length::LateStep;
-use merge_inputs::Inputs;
 use merge_labels::Label;
+use merge_missing::late_length;
+use merge_missing::late_length::LateStep;
+pub use merge_missing::merge_inputs;
+use merge_missing::merge_inputs::Inputs;
 
 // The late step, or a refusal's number, object and place.
 #[derive(Clone, Copy)]

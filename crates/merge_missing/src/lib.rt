@@ -18,6 +18,8 @@ use base_answers::Verdict;
 use base_fields::ByteOrder;
 use base_scope::Finding;
 use elf_check::View;
+pub use late_length;
+pub use merge_inputs;
 use merge_inputs::Inputs;
 
 // Whether the assembled object's section of a code holds bytes that go to the compiled object's section of another.

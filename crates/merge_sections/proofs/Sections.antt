@@ -27,16 +27,16 @@ use Rattle.blocks_spans.specs.Copied.{copied}
 use Rattle.blocks_spans.proofs.Spans.{end_spans, spans_ascend, span_last, last_by}
 use Rattle.copy_registers.proofs.Reginfo.{length_joined}
 use Rattle.copy_spans.proofs.Records.{copied_front}
-use Rattle.late_length.specs.declared.LateStep.{LateStep}
-use Rattle.late_length.specs.Late.{has_late_step}
-use Rattle.late_moves.specs.Moved.{late_rodata}
+use Rattle.late_finals.specs.of_late_length.declared.LateStep.{LateStep}
+use Rattle.late_finals.specs.of_late_length.Late.{has_late_step}
+use Rattle.late_finals.specs.of_late_moves.Moved.{late_rodata}
 use Rattle.late_laws.specs.of_late_walk.Table.{Ready, Walk}
 use Rattle.late_laws.proofs.of_late_walk.Walk.{moves_of}
 use Rattle.late_laws.proofs.Copied.{fault_copied, rodata_written}
 use Rattle.late_rodata.specs.Writing.{rest_read, Moving, RestInHand}
 use Rattle.late_rodata.proofs.Writing.{rest_read_lem}
 use Rattle.late_finals.proofs.Finals.{final_late, final_other, final_still, final_length}
-use Rattle.merge_labels.specs.Labels.{late_start}
+use Rattle.merge_line_up.specs.of_merge_labels.Labels.{late_start}
 use Rattle.merge_line_up.specs.LineUp.{late_step_of}
 use Rattle.merge_sections.specs.declared.Stage.{Stage}
 use Rattle.merge_sections.specs.Sections.{step_finding, late_finding, result_section, register_bytes}

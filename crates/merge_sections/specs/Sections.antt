@@ -12,10 +12,10 @@ use Rattle.blocks_places.specs.Places.{Place}
 use Rattle.blocks_spans.specs.Spans.{spans_of}
 use Rattle.blocks_spans.specs.Copied.{copied}
 use Rattle.copy_registers.specs.Reginfo.{joined}
-use Rattle.late_length.specs.Late.{has_late_step}
-use Rattle.late_moves.specs.Moves.{late_step_fault}
+use Rattle.late_finals.specs.of_late_length.Late.{has_late_step}
+use Rattle.late_finals.specs.of_late_moves.Moves.{late_step_fault}
 use Rattle.late_finals.specs.Finals.{final_bytes}
-use Rattle.merge_labels.specs.Labels.{late_start}
+use Rattle.merge_line_up.specs.of_merge_labels.Labels.{late_start}
 
 -- refusal 14, of a late step that searches R: the first block at fault; none where there is no late step
 unfoldable pub step_finding : ByteOrder → List Place → List ℕ → List ℕ → Finding

@@ -8,9 +8,9 @@ use Rattle.elf_check.specs.View.{Viewed}
 use Rattle.blocks_places.specs.Lines.{line_count}
 use Rattle.blocks_places.specs.Places.{Place}
 use Rattle.blocks_places.specs.Table.{places_in}
-use Rattle.late_length.specs.Late.{has_late_step}
+use Rattle.late_finals.specs.of_late_length.Late.{has_late_step}
 use Rattle.late_laws.specs.of_late_walk.Table.{Ready, Moves}
-use Rattle.merge_inputs.specs.Taken.{InputsRead}
+use Rattle.merge_line_up.specs.of_merge_inputs.Taken.{InputsRead}
 use Rattle.merge_line_up.specs.LineUp.{late_step_of}
 use Rattle.merge_line_up.specs.Agrees.{Agrees}
 use Rattle.merge_sections.specs.declared.Stage.{Stage}

@@ -13,15 +13,16 @@ ghost use Rattle.blocks_places.specs.Lines.{line_count};
 ghost use Rattle.blocks_places.specs.Table.{places_in};
 ghost use Rattle.blocks_spans.specs.Spans.{spans_of};
 ghost use Rattle.blocks_spans.specs.Copied.{copied};
-ghost use Rattle.merge_inputs.specs.Taken.{InputsRead};
-ghost use Rattle.merge_missing.specs.Complete.{Complete};
+ghost use Rattle.merge_line_up.specs.of_merge_inputs.Taken.{InputsRead};
+ghost use Rattle.merge_line_up.specs.of_merge_missing.Complete.{Complete};
 ghost use Rattle.merge_sections.specs.Sections.{result_section, register_bytes};
 ghost use Rattle.merge_sections.specs.Stages.{StageRead, Searchable, Searched, Movable};
 
 use base_scope::Finding;
+use late_finals::late_length::LateStep;
 use late_laws::late_walk;
-use late_length::LateStep;
-use merge_inputs::Inputs;
+pub use merge_line_up::merge_inputs;
+use merge_line_up::merge_inputs::Inputs;
 
 // What is in hand once 11 to 13 have passed: the inputs, and the late step.
 #[derive(Clone, Copy)]

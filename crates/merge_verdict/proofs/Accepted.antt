@@ -37,11 +37,11 @@ use Rattle.merge_inputs.specs.declared.Inputs.{Inputs}
 use Rattle.merge_inputs.specs.Verdict.{inputs_verdict}
 use Rattle.merge_inputs.specs.Taken.{inputs_of, InputsRead}
 use Rattle.merge_inputs.proofs.Reading.{inputs_passed}
-use Rattle.merge_line_up.specs.declared.LinedUp.{LinedUp}
-use Rattle.merge_line_up.specs.declared.LinedUp.TheVariants.{Lined, Refused as Unlined}
-use Rattle.merge_line_up.specs.LineUp.{line_up_verdict}
-use Rattle.merge_line_up.specs.Answer.{lined_verdict, LinesUp}
-use Rattle.merge_line_up.proofs.Agrees.{agrees_of}
+use Rattle.write_plan.specs.of_merge_line_up.declared.LinedUp.{LinedUp}
+use Rattle.write_plan.specs.of_merge_line_up.declared.LinedUp.TheVariants.{Lined, Refused as Unlined}
+use Rattle.write_plan.specs.of_merge_line_up.LineUp.{line_up_verdict}
+use Rattle.write_plan.specs.of_merge_line_up.Answer.{lined_verdict, LinesUp}
+use Rattle.write_plan.proofs.of_merge_line_up.Agrees.{agrees_of}
 use Rattle.write_plan.specs.of_merge_sections.Sections.{step_finding, late_finding}
 use Rattle.write_plan.specs.of_merge_sections.Stages.{StageRead}
 use Rattle.symbols_stage.specs.Verdict.{symbol_stages_verdict}

@@ -11,7 +11,7 @@ use Rattle.base_lists.specs.Ranges.{first}
 use Rattle.base_lists.proofs.Ranges.{and_parts, or_parts, first_here, first_next, first_end, none_first}
 use Rattle.base_scope.specs.Limits.{FILE_LIMIT, PATH_LIMIT, over_limits, Kept}
 use Rattle.base_scope.proofs.Limits.{in_limits}
-use Rattle.write_strings.proofs.Names.{Full}
+use Rattle.write_plan.proofs.of_write_strings.Names.{Full}
 use Rattle.merge_buffers.specs.Buffers.{BLOCK_BUFFER, PLACE_BUFFER, STEP_BUFFER, INDEX_BUFFER}
 use Rattle.merge_verdict.specs.Verdict.{merge_bounds, is_path_byte, is_path}
 

@@ -21,8 +21,8 @@ use Rattle.blocks_places.specs.declared.Placing.TheVariants.{Placed, Misplaced, 
 use Rattle.blocks_places.specs.Places.{Place}
 use Rattle.open_inputs.specs.Open.{check_verdict, placing_verdict, open_verdict}
 use Rattle.merge_inputs.specs.Verdict.{inputs_verdict}
-use Rattle.merge_missing.specs.Missing.{missing_verdict}
-use Rattle.merge_line_up.specs.LineUp.{labels_verdict, line_up_verdict}
+use Rattle.write_plan.specs.of_merge_missing.Missing.{missing_verdict}
+use Rattle.write_plan.specs.of_merge_line_up.LineUp.{labels_verdict, line_up_verdict}
 use Rattle.symbols_merge.specs.Listed.{symbols_verdict}
 use Rattle.write_plan.specs.of_symbols_taken.Taken.{taken_verdict}
 use Rattle.symbols_stage.specs.Verdict.{list_verdict, symbol_stages_verdict}

@@ -21,8 +21,8 @@ use Rattle.late_moves.specs.Moves.{late_step_fault}
 use Rattle.statics_table.specs.Statics.{name_head}
 use Rattle.merge_buffers.specs.Buffers.{BLOCK_BUFFER, PLACE_BUFFER, STEP_BUFFER, INDEX_BUFFER}
 use Rattle.merge_inputs.specs.Verdict.{inputs_verdict, InputsPassed}
-use Rattle.merge_line_up.specs.LineUp.{line_up_verdict}
-use Rattle.merge_line_up.specs.Agrees.{Agrees}
+use Rattle.write_plan.specs.of_merge_line_up.LineUp.{line_up_verdict}
+use Rattle.write_plan.specs.of_merge_line_up.Agrees.{Agrees}
 use Rattle.write_plan.specs.of_merge_sections.Sections.{late_finding}
 use Rattle.symbols_stage.specs.Verdict.{symbol_stages_verdict}
 use Rattle.write_plan.specs.of_carry_clash.Clash.{CLASH, clash_finding}

@@ -9,7 +9,7 @@ use Rattle.merge_sections.specs.Stages.{StageRead, Movable}
 use Rattle.merge_sections.proofs.Sections.{step_runs, step_start}
 use Rattle.statics_table.specs.declared.Tally.{Tally}
 use Rattle.statics_table.specs.Table.{statics_in, StaticTable}
-use Rattle.statics_walk.specs.Sound.{StaticsSound}
+use Rattle.symbols_fill.specs.of_statics_walk.Sound.{StaticsSound}
 use Rattle.symbols_fill.specs.of_symbols_taken.Passed.{TakenPassed}
 use Rattle.symbols_fill.specs.Stage.{FillStage}
 use Rattle.symbols_fill.proofs.Entries.{sound_codes}

@@ -10,6 +10,7 @@ ghost use Rattle.symbols_fill.specs.of_symbols_holders.Ready.{KnownHashes, symbo
 
 use base_fields::ByteOrder;
 pub use merge_sections;
+pub use merge_sections::merge_inputs;
 pub use symbols_fill;
 use symbols_fill::symbols_names::Sources;
 use symbols_fill::{Filling, symbols_holders};

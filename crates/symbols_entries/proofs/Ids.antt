@@ -23,7 +23,7 @@ use Rattle.statics_table.specs.Table.{static_in, statics_in}
 use Rattle.statics_table.proofs.Statics.{names_append}
 use Rattle.statics_table.proofs.Table.{statics_at}
 use Rattle.statics_entry.specs.Entry.{nth}
-use Rattle.statics_walk.specs.Sound.{StaticsSound}
+use Rattle.symbols_names.specs.of_statics_walk.Sound.{StaticsSound}
 use Rattle.statics_symbols.specs.Entries.{symbol_of_static, static_symbol}
 use Rattle.symbols_glabels.specs.Words.{glabel_word, mark_in}
 use Rattle.symbols_names.specs.of_symbols_ids.Entries.{finished, section_a, value_a, entry_a}

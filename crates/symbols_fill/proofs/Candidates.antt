@@ -16,7 +16,7 @@ use Rattle.elf_symbols.specs.Symbols.{symbol_count, symbol}
 use Rattle.elf_symbols.proofs.Symbols.{table_count}
 use Rattle.blocks_places.specs.Places.{Place}
 use Rattle.late_laws.proofs.of_late_lookups.Lookups.{late_rows}
-use Rattle.merge_labels.specs.Labels.{late_start}
+use Rattle.symbols_holders.specs.of_merge_labels.Labels.{late_start}
 use Rattle.statics_table.specs.declared.Static.{Static}
 use Rattle.statics_table.specs.Table.{statics_in}
 use Rattle.symbols_merge.proofs.Agree.{Agree}

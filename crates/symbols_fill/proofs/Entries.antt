@@ -20,19 +20,19 @@ use Rattle.elf_readers.specs.Readers.{coded_contents}
 use Rattle.elf_symbols.specs.Symbols.{symbol_count, symbol}
 use Rattle.elf_check.proofs.Views.{view_section}
 use Rattle.blocks_places.specs.Places.{Place}
-use Rattle.late_moves.specs.Moved.{is_moved}
-use Rattle.late_moves.proofs.Idle.{idle_moved}
+use Rattle.late_laws.specs.of_late_moves.Moved.{is_moved}
+use Rattle.late_laws.proofs.of_late_moves.Idle.{idle_moved}
 use Rattle.late_laws.proofs.Copied.{place_copied}
 use Rattle.late_laws.specs.of_late_lookups.Lookups.{moved_offset}
 use Rattle.late_laws.proofs.of_late_lookups.Lookups.{offset_moved}
-use Rattle.merge_labels.specs.Labels.{late_start}
+use Rattle.symbols_holders.specs.of_merge_labels.Labels.{late_start}
 use Rattle.statics_table.specs.declared.Static.{Static}
 use Rattle.statics_table.specs.Statics.{static_type, static_binding}
 use Rattle.statics_table.specs.Table.{static_in, statics_in}
 use Rattle.statics_table.proofs.Table.{length_statics, statics_at}
 use Rattle.statics_entry.specs.Entry.{nth}
-use Rattle.statics_walk.specs.Sound.{StaticsSound}
-use Rattle.statics_symbols.specs.Entries.{symbol_of_static, static_symbol}
+use Rattle.symbols_holders.specs.of_statics_walk.Sound.{StaticsSound}
+use Rattle.symbols_holders.specs.of_statics_symbols.Entries.{symbol_of_static, static_symbol}
 use Rattle.symbols_holders.specs.of_symbols_taken.Taken.{is_taken_a, is_placed_in, symbol_code}
 use Rattle.symbols_holders.specs.of_symbols_taken.Code.{code_in}
 use Rattle.symbols_holders.proofs.of_symbols_taken.Sections.{code_range, code_is}

@@ -7,9 +7,9 @@ use Rattle.elf_check.specs.View.{Viewed}
 use Rattle.blocks_file.specs.Blocks.{block_count}
 use Rattle.blocks_places.specs.Places.{Place}
 use Rattle.blocks_places.specs.Faults.{Fitting}
-use Rattle.late_length.specs.Late.{has_late_step}
+use Rattle.late_laws.specs.of_late_length.Late.{has_late_step}
 use Rattle.late_laws.specs.of_late_walk.Table.{Moves}
-use Rattle.merge_labels.specs.Labels.{late_start}
+use Rattle.symbols_holders.specs.of_merge_labels.Labels.{late_start}
 use Rattle.statics_table.specs.Table.{static_in}
 use Rattle.symbols_holders.specs.of_symbols_taken.Passed.{TakenPassed}
 use Rattle.symbols_holders.specs.of_symbols_names.Names.{SourcesRead}

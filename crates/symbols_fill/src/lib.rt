@@ -16,12 +16,12 @@ ghost use Rattle.symbols_fill.specs.Fill.{place_c, late_place_in, late_value_in,
 
 use base_fields::ByteOrder;
 use elf_check::View;
+use late_laws::late_length::LateStep;
 use late_laws::late_lookups;
 use late_laws::late_lookups::LatePlace;
-use late_length::LateStep;
-use merge_inputs::Inputs;
 use statics_table::Static;
 pub use symbols_holders;
+use symbols_holders::merge_inputs::Inputs;
 pub use symbols_holders::symbols_names;
 use symbols_holders::symbols_names::{NameKind, Sources};
 use symbols_holders::symbols_taken;

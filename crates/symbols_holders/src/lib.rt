@@ -19,7 +19,7 @@ ghost use Rattle.symbols_holders.specs.Ready.{known_in, KnownHashes, Hashed, Lis
 use base_fields::ByteOrder;
 pub use symbols_names;
 use symbols_names::Sources;
-pub use symbols_names::symbols_taken;
+pub use symbols_names::{merge_inputs, symbols_taken};
 
 // How many bytes of `:` and a count there is room for.
 fn tail_room(number: u32, room: usize) -> usize

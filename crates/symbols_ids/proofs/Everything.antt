@@ -35,8 +35,8 @@ use Rattle.blocks_places.specs.Faults.{odd_place, sizeless, early, fault8, fault
 use Rattle.blocks_places.specs.Lines.{span_value, labelled, span_label, span_size, span_align8}
 use Rattle.blocks_places.specs.Places.{label_symbol, has_symbol, label_value, lacks, reached, is_placed, place_of, places_of, taken, place, untaken, live, end_at}
 use Rattle.blocks_places.specs.Table.{held_size, place_in, places_in, place_row, place_table, off_step, low_place, on_step, on_after, step_of}
-use Rattle.blocks_items.specs.Items.{hex_digit, hex_from, dummy_count, dummy_line, dummy_word, jump_table, sized, late_bytes, late_length}
-use Rattle.blocks_items.specs.Table.{dummies_in}
+use Rattle.symbols_taken.specs.of_blocks_items.Items.{hex_digit, hex_from, dummy_count, dummy_line, dummy_word, jump_table, sized, late_bytes, late_length}
+use Rattle.symbols_taken.specs.of_blocks_items.Table.{dummies_in}
 use Rattle.blocks_glabels.specs.Glabels.{glabel_count, glabel, is_glabel_at, is_glabel, gives_size, past_sized, glabel_size}
 use Rattle.blocks_spans.specs.Copied.{copied_byte, copied}
 use Rattle.blocks_spans.specs.Spans.{span_end, is_span, span_of, spans_among, spans_of, span_at, covers, is_covered, last_end, is_word_of, replaced_word}
@@ -54,7 +54,7 @@ use Rattle.statics_file.specs.File.{entry_place, opened, closed, nested, balance
 use Rattle.statics_walk.specs.Code.{no_statics}
 use Rattle.statics_walk.specs.Walk.{descriptor_place, descriptor_inside, file_record, entry_count, entries_before, entries_start, names_start, listed_before, completed, file_fault, faulty_file, walk_fault, walk_list, debug_section, has_debug, debug_part, debug_fault, debug_list, reads_statics, statics_fault, statics}
 use Rattle.statics_symbols.specs.Entries.{symbol_of_static, static_symbol}
-use Rattle.merge_labels.specs.Labels.{label_of, is_at, is_lined, is_mislabelled, mislabelled_at, label_fault, late_label, late_start, late_lined}
+use Rattle.symbols_taken.specs.of_merge_labels.Labels.{label_of, is_at, is_lined, is_mislabelled, mislabelled_at, label_fault, late_label, late_start, late_lined}
 use Rattle.symbols_merge.specs.Candidates.{is_defined, is_unnamed, is_local, is_gp_disp}
 use Rattle.symbols_merge.specs.Listed.{list_group, listed, position, listed_at, is_alike, holder_of, is_loose, is_elsewhere, symbols_verdict}
 use Rattle.symbols_merge.specs.Merged.{result_group, is_merged, group_at_position, merged, merged_count, local_count, merged_at, held_by, number_of}

@@ -15,7 +15,7 @@ use Rattle.blocks_glabels.specs.Glabels.{is_glabel, glabel_size}
 use Rattle.blocks_spans.specs.Spans.{spans_of}
 use Rattle.blocks_spans.specs.Copied.{copied}
 use Rattle.symbols_taken.specs.of_late_moves.Moved.{moved_place}
-use Rattle.merge_labels.specs.Labels.{late_start}
+use Rattle.symbols_taken.specs.of_merge_labels.Labels.{late_start}
 use Rattle.symbols_taken.specs.Taken.{is_placed_in, symbol_code}
 
 -- what every entry goes through: `_gp_disp` has type 1, an object, and of st_other what document 01 keeps stays. Of C's entries nothing else changes.

@@ -2,3 +2,4 @@
 #![tactic(auto)]
 
 pub use symbols_taken;
+pub use symbols_taken::merge_inputs;

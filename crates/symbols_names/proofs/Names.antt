@@ -19,7 +19,7 @@ use Rattle.statics_table.specs.Statics.{stored_name, count_tail, working_name}
 use Rattle.statics_table.specs.Table.{static_in, statics_in}
 use Rattle.statics_table.proofs.Statics.{namesakes_le}
 use Rattle.statics_table.proofs.Table.{length_statics, statics_at}
-use Rattle.statics_entry.specs.Entry.{nth}
+use Rattle.symbols_ids.specs.of_statics_entry.Entry.{nth}
 use Rattle.symbols_ids.specs.Ids.{first_a, first_static, by_origin, name_of}
 use Rattle.symbols_names.specs.declared.Sources.{Sources}
 use Rattle.symbols_names.specs.Names.{stored_of, name_count, first_in, name_count_in, RowsHeld, SourcesRead}

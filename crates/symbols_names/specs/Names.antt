@@ -8,7 +8,7 @@ use Rattle.elf_symbols.specs.Symbols.{symbol_name, Table}
 use Rattle.statics_table.specs.declared.Static.{Static}
 use Rattle.statics_table.specs.Statics.{stored_name}
 use Rattle.statics_table.specs.Table.{static_in, CountedRows}
-use Rattle.statics_entry.specs.Entry.{nth}
+use Rattle.symbols_ids.specs.of_statics_entry.Entry.{nth}
 use Rattle.symbols_ids.specs.Ids.{by_origin}
 use Rattle.symbols_names.specs.declared.Sources.{Sources}
 use Rattle.symbols_names.specs.declared.NameKind.{NameKind}

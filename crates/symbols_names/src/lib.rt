@@ -16,7 +16,7 @@ use base_fields::ByteOrder;
 use base_names::Owner;
 use elf_symbols::SymbolTable;
 use statics_table::Static;
-pub use symbols_ids::symbols_taken;
+pub use symbols_ids::{merge_inputs, symbols_taken};
 
 // What is in hand to read names: both symbol tables, and how many rows the table of statics has.
 #[derive(Clone, Copy)]

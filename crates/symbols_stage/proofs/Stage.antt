@@ -20,7 +20,7 @@ use Rattle.blocks_places.specs.Table.{places_in, Laid}
 use Rattle.base_buffers.specs.Parts.{part_at, KeptBefore}
 use Rattle.merge_buffers.specs.Buffers.{ROWS_AT, BLOCK_BUFFER, HOLDERS_AT, PLACE_BUFFER, USED_AT, STATIC_AT, GLABELS_AT, LIST_AT, STEP_BUFFER, NUMBERS_AT, NAMES_AT, INDEX_BUFFER, blocks_part, ids_part, places_part, late_step_part, used_part, statics_part, list_part, names_part, order_part, BuffersHeld}
 use Rattle.base_buffers.proofs.Parts.{lent, put_back, kept_part, part_long, part_lent, put_table, put_kept}
-use Rattle.merge_inputs.specs.declared.Inputs.{Inputs}
+use Rattle.symbols_table.specs.of_merge_inputs.declared.Inputs.{Inputs}
 use Rattle.symbols_table.specs.of_merge_sections.declared.Stage.{Stage}
 use Rattle.statics_walk.specs.declared.Listing.{Listing}
 use Rattle.statics_walk.specs.Walk.{statics_fault, statics}

@@ -27,8 +27,8 @@ ghost use Rattle.symbols_stage.specs.End.{counts_of, filling_of, NumberedEnd, Li
 
 use base_answers::Verdict;
 use base_scope::Finding;
-use merge_inputs::Inputs;
 use statics_walk::Listing;
+use symbols_table::merge_inputs::Inputs;
 pub use symbols_table::merge_sections;
 use symbols_table::merge_sections::Stage;
 use symbols_table::symbols_fill::Filling;

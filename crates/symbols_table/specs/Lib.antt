@@ -1,3 +1,4 @@
+pub use Rattle.symbols_chain.specs.of_merge_inputs
 pub use Rattle.symbols_chain.specs.of_merge_sections
 pub use Rattle.symbols_chain.specs as of_symbols_chain
 pub use Rattle.symbols_chain.specs.of_symbols_fill

@@ -8,10 +8,10 @@ use Rattle.elf_check.specs.Sound.{Sound}
 use Rattle.blocks_places.specs.Places.{Place}
 use Rattle.statics_table.specs.declared.Tally.{Tally}
 use Rattle.statics_table.specs.Table.{statics_in, StaticTable}
-use Rattle.statics_walk.specs.Sound.{StaticsSound}
+use Rattle.symbols_entries.specs.of_statics_walk.Sound.{StaticsSound}
 use Rattle.symbols_merge.specs.Candidates.{Candidates}
 use Rattle.symbols_merge.specs.Merged.{merged_count}
-use Rattle.symbols_glabels.specs.Words.{glabel_word, mark_in}
+use Rattle.symbols_entries.specs.of_symbols_glabels.Words.{glabel_word, mark_in}
 use Rattle.symbols_entries.specs.of_symbols_ids.Ids.{candidates}
 use Rattle.symbols_numbers.specs.Result.{OrderOf}
 use Rattle.symbols_chain.specs.of_symbols_fill.declared.Filling.{Filling}

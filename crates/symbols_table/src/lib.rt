@@ -11,7 +11,7 @@ ghost use Rattle.symbols_table.specs.Table.{id_at, entry_in, symbols_table_in, I
 use elf_records::SymbolEntry;
 pub use symbols_chain;
 use symbols_chain::Numbering;
-pub use symbols_chain::{merge_sections, symbols_fill};
+pub use symbols_chain::{merge_inputs, merge_sections, symbols_fill};
 pub use symbols_entries::{symbols_names, symbols_taken};
 
 // Entry 0: zeros.

@@ -21,8 +21,8 @@ use Rattle.base_answers.specs.Verdicts.{finding_verdict}
 use Rattle.base_answers.proofs.Verdicts.{also_passed, also_refused}
 use Rattle.elf_records.specs.declared.symbol.SymbolEntry.{SymbolEntry}
 use Rattle.elf_symbols.specs.Symbols.{symbol_count, symbol}
-use Rattle.elf_check.specs.declared.View.{View}
-use Rattle.elf_check.specs.View.{view_of, has_in}
+use Rattle.merge_inputs.specs.of_elf_check.declared.View.{View}
+use Rattle.merge_inputs.specs.of_elf_check.View.{view_of, has_in}
 use Rattle.late_lookups.specs.declared.LatePlace.{LatePlace}
 use Rattle.late_lookups.specs.declared.LatePlace.TheVariants.{Moved, Unmoved}
 use Rattle.late_lookups.specs.Fields.{offset_at}

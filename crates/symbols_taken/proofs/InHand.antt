@@ -7,12 +7,12 @@ use Rattle.base_lists.proofs.Ranges.{by-test, first_ext}
 use Rattle.base_fields.specs.declared.ByteOrder.{ByteOrder}
 use Rattle.base_scope.specs.Codes.{target_code}
 use Rattle.elf_symbols.specs.Symbols.{symbol_count, symbol}
-use Rattle.elf_check.specs.declared.View.{View}
-use Rattle.elf_check.specs.View.{view_of}
-use Rattle.elf_check.proofs.Views.{view_has}
-use Rattle.blocks_places.specs.Places.{Place}
-use Rattle.late_moves.specs.Moved.{is_moved, moved_place}
-use Rattle.late_moves.proofs.Idle.{idle_moved}
+use Rattle.merge_inputs.specs.of_elf_check.declared.View.{View}
+use Rattle.merge_inputs.specs.of_elf_check.View.{view_of}
+use Rattle.merge_inputs.proofs.of_elf_check.Views.{view_has}
+use Rattle.merge_inputs.specs.of_blocks_places.Places.{Place}
+use Rattle.late_lookups.specs.of_late_moves.Moved.{is_moved, moved_place}
+use Rattle.late_lookups.proofs.of_late_moves.Idle.{idle_moved}
 use Rattle.late_lookups.specs.declared.LatePlace.TheVariants.{Moved, Unmoved}
 use Rattle.late_lookups.specs.Fields.{pick_late_place}
 use Rattle.late_lookups.specs.Lookups.{moved_offset}

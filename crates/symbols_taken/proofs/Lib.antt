@@ -1,3 +1,4 @@
+pub use Rattle.merge_inputs.proofs.of_elf_check
 pub use Rattle.late_lookups.proofs as of_late_lookups
 pub mod Marks
 pub mod Sections

@@ -19,10 +19,10 @@ use Rattle.base_answers.specs.Verdicts.{finding_verdict}
 use Rattle.base_answers.proofs.Verdicts.{also_parts, finding_passed}
 use Rattle.elf_readers.specs.Readers.{has_code}
 use Rattle.elf_symbols.specs.Symbols.{symbol_count, symbol}
-use Rattle.blocks_places.specs.Places.{Place}
-use Rattle.late_length.specs.Late.{has_late_step}
-use Rattle.late_moves.specs.Moved.{is_moved}
-use Rattle.late_moves.proofs.Idle.{idle_moved}
+use Rattle.merge_inputs.specs.of_blocks_places.Places.{Place}
+use Rattle.late_lookups.specs.of_late_length.Late.{has_late_step}
+use Rattle.late_lookups.specs.of_late_moves.Moved.{is_moved}
+use Rattle.late_lookups.proofs.of_late_moves.Idle.{idle_moved}
 use Rattle.merge_labels.specs.Labels.{late_start}
 use Rattle.symbols_taken.specs.Used.{is_source, is_used}
 use Rattle.symbols_taken.specs.Taken.{is_helper, is_placed_in, is_taken_a, symbol_code, has_target, is_homeless, homeless_at, is_unmoved, unmoved_at, taken_verdict}

@@ -13,9 +13,9 @@ use Rattle.base_scope.specs.Codes.{TEXT, LATE_RODATA, CODES}
 use Rattle.elf_records.specs.declared.section.SectionHeader.{SectionHeader}
 use Rattle.elf_readers.specs.Readers.{section}
 use Rattle.elf_relocations.specs.Relocations.{is_table}
-use Rattle.elf_check.specs.declared.View.{View}
-use Rattle.elf_check.specs.View.{view_of, section_in, has_in}
-use Rattle.elf_check.proofs.Views.{view_section, view_has}
+use Rattle.merge_inputs.specs.of_elf_check.declared.View.{View}
+use Rattle.merge_inputs.specs.of_elf_check.View.{view_of, section_in, has_in}
+use Rattle.merge_inputs.proofs.of_elf_check.Views.{view_section, view_has}
 use Rattle.symbols_taken.specs.Used.{is_section_of, code_of, is_source, is_source_table}
 use Rattle.symbols_taken.specs.Code.{is_section_in, code_in, is_source_in}
 

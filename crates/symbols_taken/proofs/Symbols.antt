@@ -11,9 +11,9 @@ use Rattle.base_lists.proofs.Ranges.{and_parts}
 use Rattle.base_fields.specs.declared.ByteOrder.{ByteOrder}
 use Rattle.elf_symbols.specs.Symbols.{symbol_count, Entries}
 use Rattle.elf_symbols.proofs.Symbols.{table_at, table_count}
-use Rattle.elf_check.specs.declared.View.{View}
-use Rattle.elf_check.specs.View.{view_of, Viewed}
-use Rattle.elf_check.proofs.Views.{view_table}
+use Rattle.merge_inputs.specs.of_elf_check.declared.View.{View}
+use Rattle.merge_inputs.specs.of_elf_check.View.{view_of, Viewed}
+use Rattle.merge_inputs.proofs.of_elf_check.Views.{view_table}
 use Rattle.symbols_taken.specs.Used.{is_used}
 use Rattle.symbols_taken.specs.Taken.{is_helper, locals_of, is_taken_c, is_taken_a}
 use Rattle.symbols_taken.specs.Code.{AtSymbol}

@@ -12,12 +12,12 @@ use Rattle.base_answers.specs.Answers.{ASSEMBLED}
 use Rattle.base_answers.specs.Verdicts.{also, finding_verdict}
 use Rattle.elf_symbols.specs.Symbols.{symbol_count, symbol, symbol_strings}
 use Rattle.elf_relocations.specs.Relocations.{relocation_count}
-use Rattle.elf_check.specs.declared.View.{View}
-use Rattle.elf_check.specs.View.{section_in, has_in, Viewed}
+use Rattle.merge_inputs.specs.of_elf_check.declared.View.{View}
+use Rattle.merge_inputs.specs.of_elf_check.View.{section_in, has_in, Viewed}
 use Rattle.blocks_file.specs.Blocks.{block_count}
-use Rattle.blocks_places.specs.Places.{Place}
-use Rattle.late_length.specs.Late.{has_late_step}
-use Rattle.late_walk.specs.Table.{Moves}
+use Rattle.merge_inputs.specs.of_blocks_places.Places.{Place}
+use Rattle.late_lookups.specs.of_late_length.Late.{has_late_step}
+use Rattle.late_lookups.specs.of_late_walk.Table.{Moves}
 use Rattle.late_lookups.specs.declared.LatePlace.{LatePlace}
 use Rattle.late_lookups.specs.declared.LatePlace.TheVariants.{Moved, Unmoved}
 use Rattle.late_lookups.specs.Fields.{offset_at, LateRows}

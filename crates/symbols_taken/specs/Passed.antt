@@ -5,8 +5,8 @@ use Rattle.base_scope.specs.Elf.{SHN_UNDEF, SHN_ABS}
 use Rattle.base_scope.specs.Codes.{LATE_RODATA, target_code}
 use Rattle.elf_readers.specs.Readers.{has_code}
 use Rattle.elf_symbols.specs.Symbols.{symbol_count, symbol}
-use Rattle.blocks_places.specs.Places.{Place}
-use Rattle.late_moves.specs.Moved.{is_moved}
+use Rattle.merge_inputs.specs.of_blocks_places.Places.{Place}
+use Rattle.late_lookups.specs.of_late_moves.Moved.{is_moved}
 use Rattle.merge_labels.specs.Labels.{late_start}
 use Rattle.symbols_taken.specs.Used.{is_source, is_used}
 use Rattle.symbols_taken.specs.Taken.{is_helper, is_taken_a, symbol_code}

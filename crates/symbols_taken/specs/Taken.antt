@@ -14,8 +14,8 @@ use Rattle.base_answers.specs.Answers.{ASSEMBLED}
 use Rattle.base_answers.specs.Verdicts.{also, finding_verdict}
 use Rattle.elf_readers.specs.Readers.{section, has_code}
 use Rattle.elf_symbols.specs.Symbols.{symtab, symbol_count, symbol, symbol_name}
-use Rattle.blocks_places.specs.Places.{Place}
-use Rattle.late_moves.specs.Moved.{is_moved}
+use Rattle.merge_inputs.specs.of_blocks_places.Places.{Place}
+use Rattle.late_lookups.specs.of_late_moves.Moved.{is_moved}
 use Rattle.merge_labels.specs.Labels.{late_start}
 use Rattle.symbols_taken.specs.Used.{code_of, is_source, is_used}
 

@@ -14,7 +14,7 @@ ghost use Rattle.base_scope.specs.Text.{text};
 ghost use Rattle.elf_readers.specs.Readers.{section_count};
 ghost use Rattle.elf_readers.specs.Bounds.{Headed};
 ghost use Rattle.elf_symbols.specs.Symbols.{symbol_count, Entries};
-ghost use Rattle.elf_check.specs.View.{Viewed};
+ghost use Rattle.merge_inputs.specs.of_elf_check.View.{Viewed};
 ghost use Rattle.symbols_taken.specs.Used.{is_source_table, is_used};
 ghost use Rattle.symbols_taken.specs.Taken.{is_helper, is_taken_c, is_taken_a};
 ghost use Rattle.symbols_taken.specs.Code.{is_section_in, code_in, is_source_in, marked, used_in, used_bytes, AtSymbol, has_target_in, lacks_target_in, is_homeless_in, homeless_in, LateIn, is_moved_in, is_unmoved_value, is_unmoved_in, unmoved_in, taken_in};
@@ -22,11 +22,13 @@ ghost use Rattle.symbols_taken.specs.Code.{is_section_in, code_in, is_source_in,
 use base_answers::Verdict;
 use base_fields::ByteOrder;
 use base_scope::Finding;
-use elf_check::View;
-use late_length::LateStep;
 pub use late_lookups;
 use late_lookups::LatePlace;
+use late_lookups::late_length::LateStep;
+pub use merge_inputs;
 use merge_inputs::Inputs;
+pub use merge_inputs::elf_check;
+use merge_inputs::elf_check::View;
 
 // Whether section s is the one of a code.
 fn is_section_in(view: View, s: usize, code: u32) -> bool

@@ -1,3 +1,5 @@
+pub use Rattle.merge_sections.specs.of_merge_missing
+pub use Rattle.merge_sections.specs.of_merge_line_up
 pub use Rattle.carry_entries.specs.of_carry_clash
 pub use Rattle.carry_entries.specs as of_carry_entries
 pub use Rattle.merge_sections.specs as of_merge_sections

@@ -1,5 +1,5 @@
 -- The lower of both places. Assumes nothing.
-use Rattle.elf_check.proofs.Views.{view_count}
+use Rattle.symbols_taken.proofs.of_elf_check.Views.{view_count}
 use Rattle.merge_kept.proofs.Kept.{kept_le}
 use Rattle.carry_clash.proofs.Joined.{clash_found}
 use Rattle.carry_clash.proofs.clash_fault.Goals as goal

@@ -1,7 +1,7 @@
 -- Each way through the tests. Assumes nothing.
 use native.Mathlib.Omega.{arith}
 use mathlib.Core.Path.{◌∙◌}
-use Rattle.elf_check.proofs.Views.{view_count}
+use Rattle.symbols_taken.proofs.of_elf_check.Views.{view_count}
 use Rattle.carry_clash.proofs.Joined.{goal_low, clash_left, clash_empty, clash_past, clash_same, clash_other}
 use Rattle.carry_clash.proofs.clash_of.Goals as goal
 

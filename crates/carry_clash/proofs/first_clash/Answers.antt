@@ -2,7 +2,7 @@
 use Rattle.base_lists.specs.Ranges.{least}
 use Rattle.base_lists.proofs.Ranges.{least_zero}
 use Rattle.elf_readers.specs.Readers.{section_count}
-use Rattle.elf_check.proofs.Views.{view_count}
+use Rattle.symbols_taken.proofs.of_elf_check.Views.{view_count}
 use Rattle.carry_clash.specs.Clash.{joined_section, is_misjoined}
 use Rattle.carry_clash.proofs.Joined.{least_step}
 use native.Mathlib.Omega.{arith}

@@ -1,7 +1,7 @@
 -- A search for the first section at fault: none before i is. Assumes nothing.
 use Rattle.base_lists.proofs.Ranges.{first_here, first_next, first_end}
 use Rattle.elf_readers.specs.Readers.{section_count}
-use Rattle.elf_check.proofs.Views.{view_count}
+use Rattle.symbols_taken.proofs.of_elf_check.Views.{view_count}
 use Rattle.carry_clash.specs.Clash.{is_cut}
 use native.Mathlib.Omega.{arith}
 use Prim.Native.Nat.{◌-◌, ◌<◌}

@@ -1,6 +1,6 @@
 -- A search for the first symbol of a section: none before k is in it. Assumes nothing.
 use Rattle.elf_symbols.proofs.Symbols.{table_at}
-use Rattle.elf_check.proofs.Views.{view_table}
+use Rattle.symbols_taken.proofs.of_elf_check.Views.{view_table}
 use Rattle.symbols_taken.proofs.Symbols.{view_symbols}
 use Rattle.carry_clash.proofs.Cut.{symbol_there, symbol_next, symbol_none}
 use native.Mathlib.Omega.{arith}

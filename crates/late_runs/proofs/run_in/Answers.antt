@@ -4,7 +4,7 @@ use Rattle.late_runs.proofs.Words.{row_word, row_table_lem}
 use native.Mathlib.Omega.{arith}
 use Prim.Native.Nat.{◌≤◌, ◌<◌}
 use mathlib.Core.Path.{sym, ◌∙◌}
-use Rattle.blocks_items.specs.Items.{dummy_count}
+use Rattle.late_lookups.specs.of_blocks_items.Items.{dummy_count}
 use Rattle.late_runs.proofs.run_in.Goals as goal
 
 pub row_dummies-count-requires : goal.row_dummies-count-requires

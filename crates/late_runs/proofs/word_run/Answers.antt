@@ -1,5 +1,5 @@
 -- `late_runs::word_run` meets its contract: the numbers read are those of the definition, and all are small. Assumes nothing.
-use Rattle.blocks_items.proofs.DummyLines.{count_few}
+use Rattle.late_lookups.proofs.of_blocks_items.DummyLines.{count_few}
 use Rattle.late_runs.proofs.Words.{run_in_word, run_before}
 use native.Mathlib.Omega.{arith}
 use mathlib.Core.Path.{◌∙◌}

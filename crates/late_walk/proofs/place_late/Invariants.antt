@@ -1,5 +1,5 @@
-use Rattle.blocks_places.specs.Lines.{line_count}
-use Rattle.blocks_places.specs.Table.{places_in}
+use Rattle.late_blocks.specs.of_blocks_places.Lines.{line_count}
+use Rattle.late_blocks.specs.of_blocks_places.Table.{places_in}
 use Rattle.late_walk.proofs.Walk.{WalkingBlocks}
 use Prim.Native.Nat.{◌-◌}
 use Rattle.late_walk.proofs.place_late.Given as goal

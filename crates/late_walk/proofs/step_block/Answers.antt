@@ -1,8 +1,8 @@
 -- `late_walk::step_block` meets its contract: a block that is switched off has no items, and one that is not has its dummies and its jump table. Assumes nothing.
 use Rattle.base_scope.specs.Limits.{DUMMY_LIMIT, LATE_WORDS}
 use Rattle.blocks_file.proofs.Table.{parsed_inside}
-use Rattle.blocks_items.specs.Items.{dummy_count}
-use Rattle.blocks_items.proofs.DummyLines.{dummies_in_lem, dummies_up, dummies_limit}
+use Rattle.late_blocks.specs.of_blocks_items.Items.{dummy_count}
+use Rattle.late_blocks.proofs.of_blocks_items.DummyLines.{dummies_in_lem, dummies_up, dummies_limit}
 use Rattle.late_blocks.proofs.Items.{spot_sound, spot_unsound}
 use Rattle.late_walk.proofs.Steps.{live_count, words_live, step_next, step_stop, step_off, words_off}
 use mathlib.Core.Path.{◌≡◌, sym, ◌∙◌}

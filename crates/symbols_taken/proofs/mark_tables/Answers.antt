@@ -1,6 +1,6 @@
 -- After t sections the symbols that they use are marked, over zeros. Assumes nothing.
 use Rattle.base_buffers.proofs.Buffers.{length_zeros}
-use Rattle.elf_check.proofs.Views.{view_count}
+use Rattle.merge_inputs.proofs.of_elf_check.Views.{view_count}
 use Rattle.symbols_taken.specs.Used.{is_used}
 use Rattle.symbols_taken.specs.Code.{marked, used_in, used_to}
 use Rattle.symbols_taken.proofs.Marks.{length_marked, marked_none, marked_then, table_zero_lem, table_next, table_all}

@@ -1,7 +1,7 @@
 -- A search for the first symbol at fault: none before k is. Assumes nothing.
 use Rattle.base_lists.proofs.Ranges.{first_here, first_next, first_end}
 use Rattle.elf_symbols.proofs.Symbols.{names_up, names_inside, names_are}
-use Rattle.elf_check.proofs.Views.{view_table}
+use Rattle.merge_inputs.proofs.of_elf_check.Views.{view_table}
 use Rattle.symbols_taken.specs.Code.{is_unmoved_in}
 use Rattle.symbols_taken.proofs.Symbols.{view_symbols}
 use Rattle.symbols_taken.proofs.Faults.{unmoved_at_lem, unmoved_none}
