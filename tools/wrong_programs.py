@@ -47,6 +47,7 @@ UNFIT = re.compile(r"was not admitted|that can be named from here|has no field|h
 FALSE = re.compile(r"^note: src/\S+: it is not proved that .* allow values at which this goal is false", re.M)
 OPEN = re.compile(r"^note: src/\S+: it is not proved that .*? \(`([^`]+)`\)", re.M)
 GONE = re.compile(r"`goal\.([^`]+)`: module `[^`]+` has no `")
+FIELD = re.compile(r"^\./proofs/(\S+)\.antt:\d+:\d+: error: [^\n]*has no field `(if-[^`]+)`[^\n]*(?:\n  [^\n]*)*?the fields that can be named here are ([^\n]*)", re.M)
 ENDED = re.compile(r"^(?:fn|struct|enum|trait|impl|type) \S+: .*$", re.M)
 CACHE = os.path.join(os.environ.get("XDG_CACHE_HOME") or os.path.expanduser("~/.cache"), "daphulle", "wrong_programs")
 READ = ("src", "specs", "proofs")
@@ -160,7 +161,8 @@ def refused(one, log):
 
 
 def renamed(one, texts, log):
-    """the texts with the proof of a program's function under the names that its goals have now, which go by the text of the code; None where none went"""
+    """the texts with the proof of a program's function under the names that its goals and tests have now, which go by the text of the code, and without answers to goals that rt
+    finds by itself now; None where none went"""
     verdict = next((it for it in VERDICT.finditer(log.text) if one.function and is_named(one.function, it[1].partition("::")[2])), None)
     if not verdict:
         return None
@@ -168,16 +170,25 @@ def renamed(one, texts, log):
     above = log.text[: verdict.start()]
     opened = OPEN.findall(above[max((it.end() for it in ENDED.finditer(above)), default=0) :])
     gone = [it[1] for file, _, said in ERROR.findall(log.text) if f"proofs/{file}".startswith(folder) for it in GONE.finditer(said)]
-    words = {}
+    mine = "\n".join(text for path, text in texts.items() if path.startswith(folder))
+    words, answered = {}, []
     for old in dict.fromkeys(gone):
         head, _, where = old.rpartition("-then-")
         new = next((it for it in opened if it.rpartition("-then-")[0] == head and it not in words.values()), None)
         if new:
             words[old] = new
             words[f"if-{where}"] = f"if-{new.rpartition('-then-')[2]}"
+        else:
+            answered.append(old)
+    for file, old, fields in FIELD.findall(log.text):
+        new = [it for it in re.findall(r"`(if-[^`]+)`", fields) if it not in mine]
+        if f"proofs/{file}".startswith(folder) and len(new) == 1:
+            words.setdefault(old, new[0])
     changed = dict(texts)
     for path, text in texts.items():
         if path.startswith(folder):
+            for name in answered:
+                text = re.sub(rf"(?ms)^pub {re.escape(name)} : goal\.{re.escape(name)}$.*?(?=^\S[^\n]* : |\Z)", "", text)
             changed[path] = re.sub(r"[\w'-]+", lambda it: words.get(it[0], it[0]), text)
     return changed if changed != texts else None
 
@@ -298,10 +309,13 @@ def missed(found, texts, check, passed, say=lambda text: None):
         changed = applied(texts, [one])
         log = check(changed)
         is_refused, why = refused(one, log)
-        again = None if is_refused else renamed(one, changed, log)
-        if again:
+        for _ in range(4):
+            changed = None if is_refused else renamed(one, changed, log)
+            if not changed:
+                break
             say(f"{one.label}: its proof under the goals' new names")
-            is_refused, why = refused(one, check(again))
+            log = check(changed)
+            is_refused, why = refused(one, log)
         say(f"{one.label} alone: {'refused' if is_refused else why}")
         if is_refused:
             passed(one)
