@@ -7,7 +7,7 @@ use Rattle.merge_missing.proofs.missing_in_a.Given as goal
 
 abbrev pub invariant-loop-code : goal.invariant-loop-code
 invariant-loop-code l =
-    (TEXT ≤ l.code) × (l.code ≤ CODES + 1) × (first (missing_by l.order l.assembled l.fn.inputs.compiled l.ends l.late) TEXT (CODES + 1) ≡ first (missing_by l.order l.assembled l.fn.inputs.compiled l.ends l.late) l.code (CODES + 1))
+    (TEXT ≤ l.code) × (l.code ≤ CODES + 1) × (first (missing_by l.order l.assembled l.target l.ends l.late) TEXT (CODES + 1) ≡ first (missing_by l.order l.assembled l.target l.ends l.late) l.code (CODES + 1))
 
 abbrev pub decreases-loop-code : goal.decreases-loop-code
 decreases-loop-code l = CODES + 1 - l.code
