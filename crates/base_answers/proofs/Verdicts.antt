@@ -1,5 +1,6 @@
 -- The laws of tests one behind the other: one that passes leaves the rest to decide, one that refuses decides; and what an accepted answer says of all of them.
 -- Assumes nothing.
+use Rattle.std.specs.Prelude.{None, Some, Option, Ok, Err}
 use Prim.Native.Nat.{ℕ, ◌≤◌}
 use mathlib.Core.Path.{◌≡◌, refl, sym, ◌∙◌}
 use mathlib.Core.Bool.{Bool, true, false}
@@ -8,13 +9,9 @@ use native.Mathlib.Omega.{arith}
 use lib.ListN.{length}
 use lib.Dec.{leb}
 use borrow.Author.Tests.{leb-true}
-use Rattle.base_scope.specs.declared.Finding.{Finding}
-use Rattle.base_scope.specs.declared.Finding.TheVariants.{Clear, At}
 use Rattle.base_scope.specs.Refusals.{LIMITS, OUTPUT_ROOM}
-use Rattle.base_answers.specs.declared.Verdict.{Verdict}
-use Rattle.base_answers.specs.declared.Verdict.TheVariants.{Passed, Refused}
 use Rattle.base_answers.specs.Answers.{Answer, accepted, refused, NONE, pick_answer, room_for}
-use Rattle.base_answers.specs.Verdicts.{also, if_passed, limit_verdict, finding_verdict}
+use Rattle.base_answers.specs.Verdicts.{Passed, Refused, Verdict, also, if_passed, limit_verdict, finding_verdict}
 
 module _ (v rest : Verdict) where
   pub also_passed : v ≡ Passed → also v rest ≡ rest
@@ -28,8 +25,8 @@ module _ (v rest : Verdict) where
 -- where all pass, each does
 pub also_parts : (v rest : Verdict) → also v rest ≡ Passed → (v ≡ Passed) × (rest ≡ Passed)
 unfolding also
-also_parts Passed rest e = (refl, e)
-also_parts (Refused n o p) rest e = (cc, cc)
+also_parts (Ok u) rest e = (refl, e)
+also_parts (Err r) rest e = (cc, cc)
 
 module _ (v : Verdict) (rest : Answer) where
   pub if_passed_lem : v ≡ Passed → if_passed v rest ≡ rest
@@ -43,8 +40,8 @@ module _ (v : Verdict) (rest : Answer) where
 -- behind an accepted answer every test passed
 pub if_accepted : (v : Verdict) (rest : Answer) (x : List ℕ) → if_passed v rest ≡ accepted x → (v ≡ Passed) × (rest ≡ accepted x)
 unfolding if_passed
-if_accepted Passed rest x e = (refl, e)
-if_accepted (Refused n o p) rest x e = (cc, cc)
+if_accepted (Ok u) rest x e = (refl, e)
+if_accepted (Err r) rest x e = (cc, cc)
 
 pub room_accepted : (text x : List ℕ) (room : ℕ) → room_for text room ≡ accepted x → (x ≡ text) × (length text ≤ room)
 unfolding room_for
@@ -71,16 +68,16 @@ unfolding limit_verdict
 limit_passed true e = cc
 limit_passed false e = refl
 
-module _ (number object : ℕ) (f : Finding) where
-  pub finding_clear : f ≡ Clear → finding_verdict number object f ≡ Passed
+module _ (number object : ℕ) (f : Option ℕ) where
+  pub finding_clear : f ≡ None → finding_verdict number object f ≡ Passed
   unfolding finding_verdict
   finding_clear e = rw e
 
-  pub finding_at : (place : ℕ) → f ≡ At place → finding_verdict number object f ≡ Refused number object place
+  pub finding_at : (place : ℕ) → f ≡ Some place → finding_verdict number object f ≡ Refused number object place
   unfolding finding_verdict
   finding_at place e = rw e
 
-pub finding_passed : (number object : ℕ) (f : Finding) → finding_verdict number object f ≡ Passed → f ≡ Clear
+pub finding_passed : (number object : ℕ) (f : Option ℕ) → finding_verdict number object f ≡ Passed → f ≡ None
 unfolding finding_verdict
-finding_passed number object Clear e = refl
-finding_passed number object (At place) e = cc
+finding_passed number object None e = refl
+finding_passed number object (Some place) e = cc

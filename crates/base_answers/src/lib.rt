@@ -6,8 +6,6 @@ ghost use Rattle.std.specs.Prelude.{◌≡◌};
 ghost use Rattle.base_answers.specs.Answers.{refused, length_outcome, outcome_of};
 ghost use Rattle.base_answers.specs.Verdicts.{finding_verdict};
 
-use base_scope::Finding;
-
 // Accepted: number, object and place are 0. Refused: the length is 0.
 #[repr(C)]
 #[derive(Clone, Copy)]
@@ -24,32 +22,37 @@ pub const COMPILED: u32 = 1;
 
 pub const ASSEMBLED: u32 = 2;
 
-// What the tests of a call come to: passed, or the number, object and place of the first that refuses.
+// What refuses a call: the number, object and place of the first of its tests that does.
 #[derive(Clone, Copy)]
-pub enum Verdict {
-    Passed,
-    Refused(u32, u32, u64),
+pub struct Refusal {
+    pub number: u32,
+    pub object: u32,
+    pub place: u64,
 }
 
 // What a test found, under its number and object.
-pub fn finding_verdict(number: u32, object: u32, found: Finding) -> Verdict
+pub fn finding_verdict(number: u32, object: u32, found: Option<usize>) -> Result<(), Refusal>
     ensures { result ≡ finding_verdict number object found }
 {
     match found {
-        Finding::Clear => Verdict::Passed,
-        Finding::At(place) => Verdict::Refused(number, object, place as u64),
+        None => Ok(()),
+        Some(place) => Err(Refusal {
+            number,
+            object,
+            place: place as u64,
+        }),
     }
 }
 
 // A refusal.
-pub fn refusal(number: u32, object: u32, place: u64) -> Outcome
-    ensures { result ≡ outcome_of (refused number object place) }
+pub fn refused(refusal: Refusal) -> Outcome
+    ensures { result ≡ outcome_of (refused refusal.number refusal.object refusal.place) }
 {
     Outcome {
         length: 0,
-        number,
-        object,
-        place,
+        number: refusal.number,
+        object: refusal.object,
+        place: refusal.place,
     }
 }
 

@@ -41,11 +41,9 @@ fn greatest(s: &[u8], at: usize, n: usize) -> u8
     let half = n / 2;
     let mut front: u8 = 0;
     let mut back: u8 = 0;
-    let mut i: usize = 0;
-    while i < half {
+    for i in 0..half {
         front = greater(front, s[at + i]);
         back = greater(back, s[at + half + i]);
-        i += 1;
     }
     greater(greater(front, back), last_of(s, at, n))
 }
@@ -54,10 +52,8 @@ fn greatest(s: &[u8], at: usize, n: usize) -> u8
 fn clear(s: &mut [u8])
     ensures { s.new ≡ zeros (length s.old) }
 {
-    let mut i: usize = 0;
-    while i < s.len() {
+    for i in 0..s.len() {
         s[i] = 0;
-        i += 1;
     }
 }
 

@@ -168,10 +168,8 @@ pub fn write_bytes(s: &mut [u8], at: usize, bytes: &[u8])
     requires { at + length bytes.now ≤ length s.old }
     ensures { s.new ≡ spliced s.old at bytes.now }
 {
-    let mut i: usize = 0;
-    while i < bytes.len() {
+    for i in 0..bytes.len() {
         s[at + i] = bytes[i];
-        i += 1;
     }
 }
 
@@ -180,10 +178,8 @@ pub fn write_words(order: ByteOrder, s: &mut [u8], at: usize, words: &[u32])
     requires { at + 4 * length words.now ≤ length s.old }
     ensures { s.new ≡ spliced s.old at (flat (encoded order 4) words.now) }
 {
-    let mut i: usize = 0;
-    while i < words.len() {
+    for i in 0..words.len() {
         write32(order, s, at + 4 * i, words[i]);
-        i += 1;
     }
 }
 
@@ -192,9 +188,7 @@ pub fn write_halves(order: ByteOrder, s: &mut [u8], at: usize, halves: &[u32])
     requires { (at + 2 * length halves.now ≤ length s.old) × ((i : ℕ) → i < length halves.now → get_or halves.now i 0 < 65536) }
     ensures { s.new ≡ spliced s.old at (flat (encoded order 2) halves.now) }
 {
-    let mut i: usize = 0;
-    while i < halves.len() {
+    for i in 0..halves.len() {
         write16(order, s, at + 2 * i, halves[i]);
-        i += 1;
     }
 }

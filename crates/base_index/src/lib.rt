@@ -60,9 +60,7 @@ fn part_by_bytes(s: &[u8]) -> u64
     ensures { result ≡ word_at s.now 0 (length s.now) }
 {
     let mut part: u64 = 0;
-    let mut i = s.len();
-    while 0 < i {
-        i -= 1;
+    for i in (0..s.len()).rev() {
         part = part * 256 + s[i] as u64;
     }
     part
@@ -99,10 +97,8 @@ fn mix_string(s: &[u8], h: u64) -> u64
 {
     let n = s.len();
     let mut g = mix_part(last_part(s), n % 8, h);
-    let mut i = n / 8 * 8;
-    while 0 < i {
-        i -= 8;
-        g = plus(base_names::word_at(s, i), g);
+    for i in (0..n / 8).rev() {
+        g = plus(base_names::word_at(s, i * 8), g);
     }
     g
 }
@@ -189,8 +185,8 @@ pub fn name_hash(t: &[u8], at: usize) -> u32
     }
     let room = shorter(HASH_BYTES, t.len() - at);
     let mut sum: u64 = 0;
-    let mut i: usize = 0;
-    while 8 <= room - i {
+    for k in 0..room / 8 {
+        let i = k * 8;
         let word = base_names::word_at(t, at + i);
         let marks = base_names::byte_marks(word, 0);
         if marks != 0 {
@@ -198,7 +194,6 @@ pub fn name_hash(t: &[u8], at: usize) -> u32
             return hash_end(plus(sum, low_part(word, n)), i + n);
         }
         sum = plus(sum, word);
-        i += 8;
     }
     late_hash(t, at)
 }
@@ -283,10 +278,8 @@ fn empty_heads(table: &mut [u8], cap: usize, n: usize)
     ensures { Emptied cap n (buckets_of n) table.old table.new }
 {
     let most = buckets_of(n);
-    let mut b: usize = 0;
-    while b < most {
+    for b in 0..most {
         base_fields::write16(ByteOrder::Big, table, head_place(cap, b), n as u32);
-        b += 1;
     }
 }
 
@@ -312,9 +305,7 @@ pub fn build(table: &mut [u8], cap: usize, n: usize)
     ensures { Built cap n table.old table.new }
 {
     empty_heads(table, cap, n);
-    let mut j = n;
-    while 0 < j {
-        j -= 1;
+    for j in (0..n).rev() {
         link(table, cap, n, j);
     }
 }

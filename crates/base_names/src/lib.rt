@@ -26,13 +26,9 @@ fn has_zero(t: &[u8], at: usize, n: usize) -> bool
     ensures { result ≡ ltb (name_end t.now at) (at + n) }
 {
     let mut hit = false;
-    let mut i: usize = 0;
-    while i < n {
+    for i in 0..n {
         if t[at + i] == 0 {
             hit = true;
-            i += 1;
-        } else {
-            i += 1;
         }
     }
     hit
@@ -157,12 +153,10 @@ pub fn name_of<'a>(compiled: &'a [u8], assembled: &'a [u8], owner: Owner, at: us
 pub fn past_last_zero(t: &[u8]) -> usize
     ensures { result ≡ past_last (zero_at t.now) (length t.now) }
 {
-    let mut n = t.len();
-    while n > 0 {
-        if t[n - 1] == 0 {
-            return n;
+    for i in (0..t.len()).rev() {
+        if t[i] == 0 {
+            return i + 1;
         }
-        n -= 1;
     }
     0
 }
@@ -173,13 +167,9 @@ fn is_same_part(a: &[u8], b: &[u8], at: usize, n: usize) -> bool
     ensures { result ≡ same (take n (drop at a.now)) (take n (drop at b.now)) }
 {
     let mut alike = true;
-    let mut i: usize = 0;
-    while i < n {
+    for i in 0..n {
         if a[at + i] != b[at + i] {
             alike = false;
-            i += 1;
-        } else {
-            i += 1;
         }
     }
     alike
@@ -230,12 +220,10 @@ pub fn has_prefix(s: &[u8], p: &[u8]) -> bool
     if s.len() < p.len() {
         return false;
     }
-    let mut i: usize = 0;
-    while i < p.len() {
+    for i in 0..p.len() {
         if s[i] != p[i] {
             return false;
         }
-        i += 1;
     }
     true
 }
@@ -360,12 +348,5 @@ pub fn name_is(t: &[u8], at: usize, s: &[u8]) -> bool
 pub fn is_ascii(s: &[u8]) -> bool
     ensures { result ≡ ascii s.now }
 {
-    let mut i: usize = 0;
-    while i < s.len() {
-        if s[i] > 127 {
-            return false;
-        }
-        i += 1;
-    }
-    true
+    s.iter().all(|b| *b <= 127)
 }

@@ -1,4 +1,4 @@
--- Document 01, "Section codes": (1).text, (2).data, (3).rodata, (4).bss, (5).late_rodata, (6).reginfo; and what goes with each. A code is an index into this one
+-- Document 01, "Section codes": 1 .text, 2 .data, 3 .rodata, 4 .bss, 5 .late_rodata, 6 .reginfo; and what goes with each. A code is an index into this one
 -- table, and everything that depends on the code of a section is a column of it.
 use Rattle.std.specs.Prelude.{ℕ, ◌+◌, ◌-◌, ◌*◌, ◌/◌, ◌%◌, Bool, true, false, cond, List, [], ◌∷◌, get_or, eqb}
 use Rattle.base_scope.specs.Text.{text}

@@ -1,7 +1,5 @@
 -- The refusal numbers of document 01's table, and what a test of one of them finds.
-use Rattle.std.specs.Prelude.{ℕ, Bool, true, false, ltb}
-use Rattle.base_scope.specs.declared.Finding.{Finding}
-use Rattle.base_scope.specs.declared.Finding.TheVariants.{Clear, At}
+use Rattle.std.specs.Prelude.{ℕ, Bool, true, false, ltb, None, Some, Option}
 
 -- 1 sizes and settings, 2 file header, 3 section headers, 4 section names, 5 symbol table, 6 relocation tables, 7 block file, 8 and 9 the places of
 -- blocks, 11 what C or A lacks, 12 the labels of blocks, 13 the late labels, 14 the late words, 15 and 16 the sections and late values of A's symbols, 17 statics,
@@ -63,14 +61,14 @@ NAME_TWICE = 19
 abbrev pub OUTPUT_ROOM : ℕ
 OUTPUT_ROOM = 21
 
-abbrev pub pick_finding : Bool → Finding → Finding → Finding
+abbrev pub pick_finding : Bool → Option ℕ → Option ℕ → Option ℕ
 pick_finding true a b = a
 pick_finding false a b = b
 
 -- a test that must hold, else the fault is at this place; then the tests after it
-unfoldable pub expect : Bool → ℕ → Finding → Finding
-expect holds place rest = pick_finding holds rest (At place)
+unfoldable pub expect : Bool → ℕ → Option ℕ → Option ℕ
+expect holds place rest = pick_finding holds rest (Some place)
 
 -- what a search for a fault among n found: its index, or n where there is none
-unfoldable pub found_below : ℕ → ℕ → Finding
-found_below n i = pick_finding (ltb i n) (At i) Clear
+unfoldable pub found_below : ℕ → ℕ → Option ℕ
+found_below n i = pick_finding (ltb i n) (Some i) None

@@ -183,29 +183,18 @@ pub const NAME_TWICE: u32 = 19;
 
 pub const OUTPUT_ROOM: u32 = 21;
 
-// What the test of a refusal number finds: nothing at fault, or the place that is reported.
-#[derive(Clone, Copy)]
-pub enum Finding {
-    Clear,
-    At(usize),
-}
-
-// A test that must hold, else the fault is at `place`; then what the tests after it found.
-pub fn expected(holds: bool, place: usize, rest: Finding) -> Finding
+// What a test finds is the place that is reported, or none: here a test that must hold, else the fault is at `place`; then what the tests after it found.
+pub fn expected(holds: bool, place: usize, rest: Option<usize>) -> Option<usize>
     ensures { result ≡ expect holds place rest }
 {
-    if holds { rest } else { Finding::At(place) }
+    if holds { rest } else { Some(place) }
 }
 
 // What a search for a fault among n found: its index, or n where there is none.
-pub fn found_below(n: usize, i: usize) -> Finding
+pub fn found_below(n: usize, i: usize) -> Option<usize>
     ensures { result ≡ found_below n i }
 {
-    if i < n {
-        Finding::At(i)
-    } else {
-        Finding::Clear
-    }
+    if i < n { Some(i) } else { None }
 }
 
 // Both of two tests.

@@ -1,5 +1,6 @@
 -- The laws of blocks: where groups and blocks start, that they stand in the file one behind the other, and what the count and the fault of a
 -- block file tell. A line of a key is whole, so what follows it starts further on and not past the end; the count is a first index. Assumes nothing.
+use Rattle.std.specs.Prelude.{None, Some}
 use Prim.Native.Nat.{ℕ, zero, suc, ◌+◌, ◌-◌, ◌≤◌, ◌<◌}
 use mathlib.Core.Path.{◌≡◌, refl, sym, ap, ◌∙◌}
 use mathlib.Core.Bool.{Bool, true, false, not, ◌&&◌}
@@ -11,7 +12,6 @@ use lib.Dec.{ltb, leb}
 use borrow.Author.Tests.{lt-ltb, le-leb, lt-leb, eq-eqb, ne_eqb, ltb-false, leb-true, leb-false, not-false}
 use Rattle.base_lists.specs.Ranges.{first}
 use Rattle.base_lists.proofs.Ranges.{by-test, by-lt, first_is, first_high, first_here, first_next, or_parts}
-use Rattle.base_scope.specs.declared.Finding.TheVariants.{Clear, At}
 use Rattle.base_scope.specs.Refusals.{pick_finding}
 use Rattle.base_scope.specs.Limits.{BLOCK_LIMIT, NUMBER_LIMIT}
 use Rattle.blocks_lines.specs.Lines.{next, line_number}
@@ -303,26 +303,26 @@ module _ (B : List ℕ) where
 
   -- ---- the fault
 
-  pub fault_none : length B ≤ block_at B (block_count B) → block_fault B ≡ Clear
+  pub fault_none : length B ≤ block_at B (block_count B) → block_fault B ≡ None
   unfolding block_fault
   fault_none h = rw (le-leb _ _ h)
 
-  pub fault_limit : block_count B ≡ BLOCK_LIMIT → block_at B (block_count B) < length B → block_fault B ≡ At (line_number B (block_at B (block_count B)))
+  pub fault_limit : block_count B ≡ BLOCK_LIMIT → block_at B (block_count B) < length B → block_fault B ≡ Some (line_number B (block_at B (block_count B)))
   unfolding block_fault fault_at
   fault_limit e h = rw (lt-leb _ _ h, eq-eqb _ _ e)
 
   pub fault_line : (block_count B ≡ BLOCK_LIMIT → ⊥) → block_at B (block_count B) < length B
-      → block_fault B ≡ At (line_number B (group_at B (block_at B (block_count B)) (faulty_group B (block_at B (block_count B)))))
+      → block_fault B ≡ Some (line_number B (group_at B (block_at B (block_count B)) (faulty_group B (block_at B (block_count B)))))
   unfolding block_fault fault_at
   fault_line d h = rw (lt-leb _ _ h, ne_eqb _ _ d)
 
   -- a file with no fault is its blocks
-  pub fault_clear : block_fault B ≡ Clear → block_at B (block_count B) ≡ length B
+  pub fault_clear : block_fault B ≡ None → block_at B (block_count B) ≡ length B
   unfolding block_fault
   fault_clear e =
       let l : length B ≤ block_at B (block_count B) = leb-true _ _ (told _ _ e) in
       omega (arith, counted_inside (block_count B) (omega arith))
     where
-      told : (b : Bool) (n : ℕ) → pick_finding b Clear (At n) ≡ Clear → b ≡ true
+      told : (b : Bool) (n : ℕ) → pick_finding b None (Some n) ≡ None → b ≡ true
       told true n e = refl
       told false n e = cc

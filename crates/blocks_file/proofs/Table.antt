@@ -1,5 +1,6 @@
 -- The laws of the table of blocks: its rows have 48 bytes each and stand one behind the other, so word k of row i is read back as the start that
 -- was written; and what a turn of the loop that fills it changes. Assumes nothing.
+use Rattle.std.specs.Prelude.{None, Some}
 use Prim.Native.Nat.{ℕ, ◌+◌, ◌*◌, ◌≤◌, ◌<◌}
 use mathlib.Core.Path.{◌≡◌, refl, sym, ap, ◌∙◌}
 use mathlib.Core.Bool.{true, false, not, ◌&&◌}
@@ -15,7 +16,6 @@ use Rattle.base_lists.proofs.Records.{length_flat, within_flat}
 use Rattle.base_fields.specs.declared.ByteOrder.TheVariants.{Big}
 use Rattle.base_fields.specs.Numbers.{number, encoded}
 use Rattle.base_fields.proofs.Numbers.{length_encoded, within_number}
-use Rattle.base_scope.specs.declared.Finding.TheVariants.{Clear, At}
 use Rattle.base_scope.specs.Limits.{FILE_LIMIT, BLOCK_LIMIT, BLOCK_ROW, BLOCK_TABLE}
 use Rattle.blocks_lines.specs.Lines.{line_number}
 use Rattle.blocks_lines.specs.Keys.{KEYS, repeats, is_key_line}
@@ -237,7 +237,7 @@ module _ (B before : List ℕ) (i a : ℕ) (table : List ℕ) (f : Filled B befo
     table = f.rows ∙ ap (λ (k : ℕ). spliced before 0 (block_table B k)) (sym e);
   }
 
-  pub filled_end : length B ≤ a → Reading B (record { fault = Clear; count = i }) before table
+  pub filled_end : length B ≤ a → Reading B (record { fault = None; count = i }) before table
   filled_end h =
       let e : block_count B ≡ i = ended_count h in
       let l : length B ≤ block_at B (block_count B) = rw e (omega (arith, at_block)) in
@@ -249,7 +249,7 @@ module _ (B before : List ℕ) (i a : ℕ) (table : List ℕ) (f : Filled B befo
   filled_limit h n =
       let e : block_count B ≡ i = f.counted ∙ first_end (stops_at B) i BLOCK_LIMIT (omega arith) in
       let s : block_at B (block_count B) ≡ a = ap (block_at B) e ∙ at_block in
-      let g : block_fault B ≡ At (line_number B a) = fault_limit B (e ∙ n) (rw s h) ∙ ap (λ (x : ℕ). At (line_number B x)) s in
+      let g : block_fault B ≡ Some (line_number B a) = fault_limit B (e ∙ n) (rw s h) ∙ ap (λ (x : ℕ). Some (line_number B x)) s in
       reading _ e (sym g) refl
 
   -- the block at a has a faulty group
@@ -260,7 +260,7 @@ module _ (B before : List ℕ) (i a : ℕ) (table : List ℕ) (f : Filled B befo
       let u : faulty_group B (block_at B i) < KEYS = rw (at_block, ← q) l in
       let e : block_count B ≡ i = f.counted ∙ first_here (stops_at B) i BLOCK_LIMIT (omega (arith, f.few)) (stops_faulty B i (rw at_block h) u) in
       let s : block_at B (block_count B) ≡ a = ap (block_at B) e ∙ at_block in
-      let g : block_fault B ≡ At (line_number B (group_at B a k)) = fault_line B (rw e d) (rw s h) ∙ rw (s, q) in
+      let g : block_fault B ≡ Some (line_number B (group_at B a k)) = fault_line B (rw e d) (rw s h) ∙ rw (s, q) in
       reading _ e (sym g) refl
 
   -- it has none: its row is written, and the next block is read

@@ -1,9 +1,7 @@
 -- The blocks of a block file B, and refusal 7 (document 01, "The block file"). The lines of one key stand together, so a block is known by where
 -- each of its eleven groups of lines starts. A group is one line, or any number where its key repeats.
-use Rattle.std.specs.Prelude.{ℕ, zero, suc, ◌+◌, ◌-◌, Bool, cond, not, ◌&&◌, ◌||◌, List, length, ltb, leb, eqb}
+use Rattle.std.specs.Prelude.{ℕ, zero, suc, ◌+◌, ◌-◌, Bool, cond, not, ◌&&◌, ◌||◌, List, length, ltb, leb, eqb, None, Some, Option}
 use Rattle.base_lists.specs.Ranges.{first}
-use Rattle.base_scope.specs.declared.Finding.{Finding}
-use Rattle.base_scope.specs.declared.Finding.TheVariants.{Clear, At}
 use Rattle.base_scope.specs.Refusals.{pick_finding}
 use Rattle.base_scope.specs.Limits.{BLOCK_LIMIT}
 use Rattle.blocks_lines.specs.Lines.{next, line_number}
@@ -66,5 +64,5 @@ module _ (B : List ℕ) where
   fault_at = cond (eqb block_count BLOCK_LIMIT) (block_at block_count) (group_at (block_at block_count) (faulty_group (block_at block_count)))
 
   -- refusal 7: the number of that line
-  unfoldable pub block_fault : Finding
-  block_fault = pick_finding (leb (length B) (block_at block_count)) Clear (At (line_number B fault_at))
+  unfoldable pub block_fault : Option ℕ
+  block_fault = pick_finding (leb (length B) (block_at block_count)) None (Some (line_number B fault_at))

@@ -1,11 +1,10 @@
 -- Of the code, not of document 01: the table of blocks. It has a row of twelve words for each block, the starts of its groups and of the next block.
-use Rattle.std.specs.Prelude.{ℕ, ◌+◌, ◌*◌, ◌≤◌, true, cond, List, ◌≡◌, length, get_or}
+use Rattle.std.specs.Prelude.{ℕ, ◌+◌, ◌*◌, ◌≤◌, true, cond, List, ◌≡◌, length, get_or, Some}
 use Rattle.base_lists.specs.Ranges.{gather, select}
 use Rattle.base_lists.specs.Records.{flat}
 use Rattle.base_lists.specs.Windows.{Within, spliced}
 use Rattle.base_fields.specs.declared.ByteOrder.TheVariants.{Big}
 use Rattle.base_fields.specs.Numbers.{number, encoded}
-use Rattle.base_scope.specs.declared.Finding.TheVariants.{At}
 use Rattle.blocks_lines.specs.Lines.{line_number}
 use Rattle.blocks_lines.specs.Keys.{KEYS, repeats}
 use Rattle.blocks_lines.specs.After.{line_after}
@@ -47,7 +46,7 @@ pub record Parsed (B table : List ℕ) : Type 0 where
 
 -- a fault at the line that stands at a, behind so many blocks
 unfoldable pub bad_line : List ℕ → ℕ → ℕ → BlockFile
-bad_line B a n = record { fault = At (line_number B a); count = n }
+bad_line B a n = record { fault = Some (line_number B a); count = n }
 
 -- what reading a block file answers, and what it leaves in the table
 pub record Reading (B : List ℕ) (r : BlockFile) (before after : List ℕ) : Type 0 where

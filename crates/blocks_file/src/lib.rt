@@ -8,7 +8,6 @@ ghost use Rattle.blocks_file.specs.Blocks.{skip};
 ghost use Rattle.blocks_file.specs.Table.{group_after, group_in, bad_line, Grouped, Reading};
 
 use base_fields::ByteOrder;
-use base_scope::Finding;
 
 // How many groups of lines a block has: one for each key.
 const GROUPS: usize = 11;
@@ -54,8 +53,7 @@ fn read_groups(file: &[u8], at: usize) -> BlockStarts
 {
     let mut starts = [0u32; 12];
     let mut p = at;
-    let mut k: u32 = 0;
-    while k < blocks_lines::KEYS {
+    for k in 0..blocks_lines::KEYS {
         starts[k as usize] = p as u32;
         let next = group_after(file, k, p);
         if next == 0 {
@@ -65,7 +63,6 @@ fn read_groups(file: &[u8], at: usize) -> BlockStarts
             };
         }
         p = next;
-        k += 1;
     }
     starts[GROUPS] = p as u32;
     BlockStarts {
@@ -77,7 +74,7 @@ fn read_groups(file: &[u8], at: usize) -> BlockStarts
 // What a block file was found to be: its fault, if any, and how many blocks stand before it.
 #[derive(Clone, Copy)]
 pub struct BlockFile {
-    pub fault: Finding,
+    pub fault: Option<usize>,
     pub count: usize,
 }
 
@@ -87,7 +84,7 @@ fn bad_line(file: &[u8], at: usize, count: usize) -> BlockFile
     ensures { result ≡ bad_line file.now at count }
 {
     BlockFile {
-        fault: Finding::At(blocks_lines::line_number(file, at)),
+        fault: Some(blocks_lines::line_number(file, at)),
         count,
     }
 }
@@ -114,7 +111,7 @@ pub fn read_blocks(file: &[u8], table: &mut [u8]) -> BlockFile
         i += 1;
     }
     BlockFile {
-        fault: Finding::Clear,
+        fault: None,
         count: i,
     }
 }

@@ -31,10 +31,8 @@ fn hex_of(v: &[u8]) -> u32
     ensures { result ≡ hexadecimal v.now }
 {
     let mut n: u32 = 0;
-    let mut i: usize = 0;
-    while i < v.len() {
-        n = n * 16 + hex_digit(v[i]);
-        i += 1;
+    for x in v {
+        n = n * 16 + hex_digit(*x);
     }
     n
 }

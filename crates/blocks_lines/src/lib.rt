@@ -44,13 +44,9 @@ pub fn line_number(file: &[u8], at: usize) -> usize
     ensures { result ≡ line_number file.now at }
 {
     let mut n: usize = 1;
-    let mut i: usize = 0;
-    while i < at {
+    for i in 0..at {
         if file[i] == 10 {
             n += 1;
-            i += 1;
-        } else {
-            i += 1;
         }
     }
     n

@@ -1,5 +1,6 @@
 -- The laws of the walk: the rows of the table of places are read back, a step equals its definition in each of a line's three ways, and what a turn of the loop
 -- changes; and what is known of every line once all are placed. Assumes nothing.
+use Rattle.std.specs.Prelude.{Ok, Err}
 use Prim.Native.Nat.{ℕ, zero, suc, ◌+◌, ◌-◌, ◌*◌, ◌/◌, ◌%◌, ◌≤◌, ◌<◌}
 use mathlib.Core.Path.{◌≡◌, refl, sym, ap, ◌∙◌}
 use mathlib.Core.Logic.{◌⊎◌, inl, inr}
@@ -26,12 +27,11 @@ use Rattle.elf_records.specs.declared.symbol.SymbolEntry.{SymbolEntry}
 use Rattle.elf_symbols.specs.Symbols.{symbol_count, symbol}
 use Rattle.blocks_file.specs.Table.{Parsed}
 use Rattle.blocks_file.proofs.Blocks.{count_high}
-use Rattle.blocks_places.specs.declared.Placing.{Placing}
-use Rattle.blocks_places.specs.declared.Placing.TheVariants.{Placed, Misplaced, Misaligned}
+use Rattle.blocks_places.specs.declared.PlaceFault.TheVariants.{Misplaced, Misaligned}
 use Rattle.blocks_places.specs.declared.LineStep.{LineStep}
 use Rattle.blocks_places.specs.Lines.{line_count, labelled, span_size, span_align8}
 use Rattle.blocks_places.specs.Places.{Place, nowhere, label_symbol, has_symbol, label_value, lacks, reached, is_placed, place_of, places_of, taken, place, end_at}
-use Rattle.blocks_places.specs.Faults.{odd_place, sizeless, early, fault8, fault9, is_misplaced, misplaced_at, placing, Fitting}
+use Rattle.blocks_places.specs.Faults.{Placed, Placing, odd_place, sizeless, early, fault8, fault9, is_misplaced, misplaced_at, placing, Fitting}
 use Rattle.blocks_places.specs.Table.{held_size, place_in, places_in, place_row, place_table, Laid, Placement, off_step, low_place, on_step, on_after, step_of}
 use Rattle.blocks_places.proofs.Places.{label_value_read, symbol_yes, symbol_no, lacks_labelled, lacks_plain, reached_first, reached_next, placed_is, placed_not, placed_labelled, placed_reached, place_yes, place_no, place_taken, length_places, taken_placed, place_value, places_small, taken_inside, end_none, end_other, end_off, end_moved}
 
@@ -211,11 +211,11 @@ module _ (o : ByteOrder) (C B : List ℕ) where
 
   -- ---- the answer
 
-  at_8 : (n : ℕ) → misplaced_at o C B ≡ n → n < line_count B → fault8 o C B n ≡ true → placing o C B ≡ Misplaced (line_block n)
+  at_8 : (n : ℕ) → misplaced_at o C B ≡ n → n < line_count B → fault8 o C B n ≡ true → placing o C B ≡ Err (Misplaced (line_block n))
   unfolding placing
   at_8 n e h t = rw (e, lt-ltb n (line_count B) h, t)
 
-  at_9 : (n : ℕ) → misplaced_at o C B ≡ n → n < line_count B → fault8 o C B n ≡ false → placing o C B ≡ Misaligned (line_block n)
+  at_9 : (n : ℕ) → misplaced_at o C B ≡ n → n < line_count B → fault8 o C B n ≡ false → placing o C B ≡ Err (Misaligned (line_block n))
   unfolding placing
   at_9 n e h f = rw (e, lt-ltb n (line_count B) h, f)
 
@@ -287,17 +287,17 @@ module _ (o : ByteOrder) (C B before : List ℕ) (j : ℕ) (ends : List ℕ) (on
     stops : is_misplaced o C B j ≡ true → misplaced_at o C B ≡ j
     stops t = w.clear ∙ first_here (is_misplaced o C B) j (line_count B) h t
 
-    pub walking_8 : s.misplaced ≡ true → Placement o C B (Misplaced (line_block j)) before places
+    pub walking_8 : s.misplaced ≡ true → Placement o C B (Err (Misplaced (line_block j))) before places
     walking_8 t =
         let f : fault8 o C B j ≡ true = sym by_8 ∙ t in
         let e : misplaced_at o C B ≡ j = stops (misplaced_8 o C B j f) in
-        placement (Misplaced (line_block j)) e (sym (at_8 o C B j e h f))
+        placement (Err (Misplaced (line_block j))) e (sym (at_8 o C B j e h f))
 
-    pub walking_9 : s.misplaced ≡ false → s.misaligned ≡ true → Placement o C B (Misaligned (line_block j)) before places
+    pub walking_9 : s.misplaced ≡ false → s.misaligned ≡ true → Placement o C B (Err (Misaligned (line_block j))) before places
     walking_9 n t =
         let f : fault8 o C B j ≡ false = sym by_8 ∙ n in
         let e : misplaced_at o C B ≡ j = stops (misplaced_9 o C B j f (sym by_9 ∙ t)) in
-        placement (Misaligned (line_block j)) e (sym (at_9 o C B j e h f))
+        placement (Err (Misaligned (line_block j))) e (sym (at_9 o C B j e h f))
 
     -- the row of the step, its end and its flag
     row_is : flat (encoded Big 4) (s.size ∷ s.place ∷ []) ≡ place_row (span_size B j) (place_of o C B j)
@@ -357,10 +357,10 @@ module _ (o : ByteOrder) (C B : List ℕ) where
       (λ f. told_9 _ _ _ (sym (at_9 o C B _ refl h f) ∙ e)))
       (λ h. omega (arith, high))
     where
-      told_8 : (n a b : ℕ) → Misplaced n ≡ Placed → a ≡ b
+      told_8 : (n a b : ℕ) → Err (Misplaced n) ≡ Placed → a ≡ b
       told_8 n a b e = cc
 
-      told_9 : (n a b : ℕ) → Misaligned n ≡ Placed → a ≡ b
+      told_9 : (n a b : ℕ) → Err (Misaligned n) ≡ Placed → a ≡ b
       told_9 n a b e = cc
 
   -- no line is at fault

@@ -1,16 +1,23 @@
 -- Refusals 8 and 9 (document 01's table, and "Order": "blocks, and their sections, in order by 8 then 9"); and what they leave true of the places.
-use Rattle.std.specs.Prelude.{ℕ, ◌-◌, ◌%◌, ◌^◌, ◌≤◌, ◌<◌, ◌≡◌, Bool, true, false, not, ◌&&◌, ◌||◌, List, length, eqb, ltb}
+use Rattle.std.specs.Prelude.{ℕ, ◌-◌, ◌%◌, ◌^◌, ◌≤◌, ◌<◌, ◌≡◌, Bool, true, false, not, ◌&&◌, ◌||◌, List, length, eqb, ltb, Result, Ok, Err}
 use Rattle.base_lists.specs.Ranges.{first}
 use Rattle.base_fields.specs.declared.ByteOrder.{ByteOrder}
 use Rattle.base_scope.specs.Codes.{line_code, line_block}
-use Rattle.blocks_places.specs.declared.Placing.{Placing}
-use Rattle.blocks_places.specs.declared.Placing.TheVariants.{Placed, Misplaced, Misaligned}
+use Rattle.blocks_places.specs.declared.PlaceFault.{PlaceFault}
+use Rattle.blocks_places.specs.declared.PlaceFault.TheVariants.{Misplaced, Misaligned}
 use Rattle.blocks_places.specs.Lines.{line_count, labelled, span_size, span_align8}
 use Rattle.blocks_places.specs.Places.{Place, label_value, reached, is_placed, places_of, taken, place, end_at}
 
 -- an align8 that is not 0 and not 8 - (place mod 8)
 unfoldable pub odd_place : ℕ → ℕ → Bool
 odd_place place align8 = not (eqb align8 0) && not (eqb align8 (8 - place % 8))
+
+-- every line is placed, or the block at fault by 8 or by 9
+abbrev pub Placing : Type 0
+Placing = Result (Unit {0}) PlaceFault
+
+abbrev pub Placed : Placing
+Placed = Ok tt
 
 abbrev pick_placing : Bool → Placing → Placing → Placing
 pick_placing true a b = a
@@ -42,7 +49,7 @@ module _ (o : ByteOrder) (C B : List ℕ) where
   unfoldable pub placing : Placing
   placing =
       pick_placing (ltb misplaced_at (line_count B))
-      (pick_placing (fault8 misplaced_at) (Misplaced (line_block misplaced_at)) (Misaligned (line_block misplaced_at)))
+      (pick_placing (fault8 misplaced_at) (Err (Misplaced (line_block misplaced_at))) (Err (Misaligned (line_block misplaced_at))))
       Placed
 
 -- what they leave true of the places P of the lines of B: a line that is taken has a label and a size, starts behind the end before it in its section, and at a

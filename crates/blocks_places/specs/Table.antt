@@ -13,11 +13,10 @@ use Rattle.elf_symbols.specs.declared.SymbolTable.{SymbolTable}
 use Rattle.elf_symbols.specs.Symbols.{Table}
 use Rattle.elf_index.specs.Index.{SymbolIndex}
 use Rattle.blocks_file.specs.Table.{Parsed}
-use Rattle.blocks_places.specs.declared.Placing.{Placing}
 use Rattle.blocks_places.specs.declared.LineStep.{LineStep}
 use Rattle.blocks_places.specs.Lines.{line_count, span_size}
 use Rattle.blocks_places.specs.Places.{Place, reached, place_of, places_of, taken, end_at}
-use Rattle.blocks_places.specs.Faults.{odd_place, fault8, fault9, misplaced_at, placing, Fitting}
+use Rattle.blocks_places.specs.Faults.{Placing, odd_place, fault8, fault9, misplaced_at, placing, Fitting}
 
 -- row j of a table: its size and its place; and the places of the first n rows
 unfoldable pub held_size : List ℕ → ℕ → ℕ

@@ -21,10 +21,9 @@ ghost use Rattle.blocks_places.specs.Table.{place_in, places_in, held_size, Plac
 use base_fields::ByteOrder;
 use elf_symbols::SymbolTable;
 
-// The answer of the walk over all blocks: every span is placed, or the block at fault by 8 or by 9.
+// What the walk over all blocks may find: the block at fault by 8, or by 9.
 #[derive(Clone, Copy)]
-pub enum Placing {
-    Placed,
+pub enum PlaceFault {
     Misplaced(usize),
     Misaligned(usize),
 }
@@ -210,28 +209,26 @@ pub fn place_spans(
     table: &[u8],
     blocks: usize,
     places: &mut [u8],
-) -> Placing
+) -> Result<(), PlaceFault>
     requires { Table order compiled.now symbols × Parsed file.now table.now × (blocks ≡ block_count file.now) × (PLACE_TABLE ≤ length places.old) × SymbolIndex order compiled.now index.now }
     ensures { Placement order compiled.now file.now result places.old places.new }
 {
     let mut ends = [0usize; base_scope::LINE_INDICES];
     let mut on = true;
-    let mut j: usize = 0;
-    while j < base_scope::LINES * blocks {
+    for j in 0..base_scope::LINES * blocks {
         let c = base_scope::line_code(j) as usize;
         let s = step_of(order, compiled, symbols, index, file, table, j, ends[c], on);
         if s.misplaced {
-            return Placing::Misplaced(base_scope::line_block(j));
+            return Err(PlaceFault::Misplaced(base_scope::line_block(j)));
         }
         if s.misaligned {
-            return Placing::Misaligned(base_scope::line_block(j));
+            return Err(PlaceFault::Misaligned(base_scope::line_block(j)));
         }
         store_place(places, j, s.size, s.place);
         ends[c] = s.end;
         on = s.on;
-        j += 1;
     }
-    Placing::Placed
+    Ok(())
 }
 
 // Whether the line of row j is taken.
@@ -263,16 +260,11 @@ pub fn is_live(file: &[u8], table: &[u8], places: &[u8], i: usize) -> bool
     requires { Parsed file.now table.now × (PLACE_ROW * line_count file.now ≤ length places.now) × (i < block_count file.now) }
     ensures { result ≡ live (places_in places.now (line_count file.now)) file.now i }
 {
-    let mut j = base_scope::LINES * i;
-    while j < base_scope::LINES * (i + 1) {
+    for j in base_scope::LINES * i..base_scope::LINES * (i + 1) {
         if is_labelled(file, table, j) {
-            if is_taken(places, j) {
-                j += 1;
-            } else {
+            if !is_taken(places, j) {
                 return false;
             }
-        } else {
-            j += 1;
         }
     }
     true

@@ -1,5 +1,6 @@
 -- The laws of the table of spans: rows are read back; the loop that gathers them; and the first row that ends behind an offset, by which it is told whether the offset
 -- lies under a span. Assumes nothing.
+use Rattle.std.specs.Prelude.{None, Some}
 use Prim.Native.Nat.{ℕ, zero, suc, ◌+◌, ◌-◌, ◌*◌, ◌%◌, ◌^◌, ◌≤◌, ◌<◌}
 use mathlib.Core.Path.{◌≡◌, refl, sym, ap, ◌∙◌}
 use mathlib.Core.Logic.{◌⊎◌, inl, inr}
@@ -27,7 +28,6 @@ use Rattle.blocks_places.specs.Places.{Place, end_at}
 use Rattle.blocks_places.proofs.Places.{end_none, end_other}
 use Rattle.blocks_places.specs.Faults.{Fitting}
 use Rattle.blocks_spans.specs.declared.Span.{Span}
-use Rattle.blocks_spans.specs.declared.NextSpan.TheVariants.{NoSpan, Next}
 use Rattle.blocks_spans.specs.Spans.{no_span, span_end, is_span, span_of, spans_among, spans_of, span_at, last_end, covers, is_covered, replaced_word, Ascends}
 use Rattle.blocks_spans.specs.Table.{span_in, spans_in, span_ends, span_row, Stored, Gathered, Rows, ends_behind, span_from, next_span}
 use Rattle.blocks_spans.proofs.Spans.{rows_before, rows_few, length_among, length_spans, among_none, among_yes, among_no, end_spans, spans_ascend, covers_of, covers_not, covered_by_lem, covered_none, span_some, ends_up, replaced_none, replaced_over}
@@ -204,30 +204,30 @@ module _ (L : List Span) (k : ℕ) where
   unfolding ends_behind
   from_before r h = ltb-false k (span_end (span_at L r)) (from_is.below r (omega arith) h)
 
-  pub next_there : span_from L k < length L → Next (span_at L (span_from L k)) ≡ next_span L k
+  pub next_there : span_from L k < length L → Some (span_at L (span_from L k)) ≡ next_span L k
   unfolding next_span
   next_there h = rw (lt-ltb _ _ h)
 
-  pub next_none : length L ≤ span_from L k → NoSpan ≡ next_span L k
+  pub next_none : length L ≤ span_from L k → None ≡ next_span L k
   unfolding next_span
   next_none h = rw (le-ltb _ _ h)
 
   -- and what an answer tells
-  pub told_none : next_span L k ≡ NoSpan → length L ≤ span_from L k
+  pub told_none : next_span L k ≡ None → length L ≤ span_from L k
   told_none e = by-lt (span_from L k) (length L) (λ h. both (apart _ (next_there h ∙ e)) refl) (λ h. h)
     where
-      apart : (s : Span) → Next s ≡ NoSpan → false ≡ true
+      apart : (s : Span) → Some s ≡ None → false ≡ true
       apart s e = cc
 
-  pub told_span : (s : Span) → next_span L k ≡ Next s → (span_from L k < length L) × (s ≡ span_at L (span_from L k))
+  pub told_span : (s : Span) → next_span L k ≡ Some s → (span_from L k < length L) × (s ≡ span_at L (span_from L k))
   told_span s e = by-lt (span_from L k) (length L)
       (λ h. (h, part _ _ (next_there h ∙ e)))
       (λ h. both (apart s (next_none h ∙ e)) refl)
     where
-      apart : (s : Span) → NoSpan ≡ Next s → false ≡ true
+      apart : (s : Span) → None ≡ Some s → false ≡ true
       apart s e = cc
 
-      part : (s t : Span) → Next s ≡ Next t → t ≡ s
+      part : (s t : Span) → Some s ≡ Some t → t ≡ s
       part s t e = cc
 
 -- ---- where an offset lies
@@ -252,15 +252,15 @@ module _ (L : List Span) (a : Ascends L) (k : ℕ) where
 
 -- a replaced word, by the first span that ends behind k
 module _ (L : List Span) (a : Ascends L) (k : ℕ) where
-  pub replaced_clear : next_span L k ≡ NoSpan → false ≡ replaced_word L k
+  pub replaced_clear : next_span L k ≡ None → false ≡ replaced_word L k
   replaced_clear e = sym (replaced_none L k (from_none L a k (told_none L k e) k (omega arith)))
 
-  pub replaced_gap : (s : Span) → next_span L k ≡ Next s → k < s.place → false ≡ replaced_word L k
+  pub replaced_gap : (s : Span) → next_span L k ≡ Some s → k < s.place → false ≡ replaced_word L k
   replaced_gap s e h =
       let t = told_span L k s e in
       sym (replaced_none L k (from_gap L a k t.0 k (omega arith) (rw t.1 at h)))
 
-  pub replaced_word_lem : (s : Span) → next_span L k ≡ Next s → s.place ≤ k → eqb ((k - s.place) % 4) 0 ≡ replaced_word L k
+  pub replaced_word_lem : (s : Span) → next_span L k ≡ Some s → s.place ≤ k → eqb ((k - s.place) % 4) 0 ≡ replaced_word L k
   replaced_word_lem s e h =
       let t = told_span L k s e in
       let c = covers_of L k (span_from L k) (rw t.1 at h) (from_end L k t.0) in
@@ -273,12 +273,12 @@ module _ (table : List ℕ) (n k r : ℕ) (e : r ≡ first (ends_behind (spans_i
   unfolding span_from
   from_row = rw (length_in table n) (sym e)
 
-  pub row_next : r < n → Next (span_in table r) ≡ next_span (spans_in table n) k
+  pub row_next : r < n → Some (span_in table r) ≡ next_span (spans_in table n) k
   row_next h =
-      ap Next (sym (ap (span_at (spans_in table n)) from_row ∙ span_in_lem table n r h))
+      ap Some (sym (ap (span_at (spans_in table n)) from_row ∙ span_in_lem table n r h))
       ∙ next_there (spans_in table n) k (rw (from_row, length_in table n) h)
 
-  pub row_none : n ≤ r → NoSpan ≡ next_span (spans_in table n) k
+  pub row_none : n ≤ r → None ≡ next_span (spans_in table n) k
   row_none h = next_none (spans_in table n) k (rw (from_row, length_in table n) h)
 
 -- ---- the ends of the last spans

@@ -1,5 +1,5 @@
 -- Of the code, not of document 01: the table of a section's spans, a row of two words for each (place and size), and what a binary search finds in it.
-use Rattle.std.specs.Prelude.{ℕ, ◌+◌, ◌*◌, ◌≤◌, ◌<◌, ◌≡◌, Bool, true, false, List, [], ◌∷◌, length, ltb}
+use Rattle.std.specs.Prelude.{ℕ, ◌+◌, ◌*◌, ◌≤◌, ◌<◌, ◌≡◌, Bool, true, false, List, [], ◌∷◌, length, ltb, None, Some, Option}
 use Rattle.base_lists.specs.Ranges.{first, count, select, pick_list}
 use Rattle.base_lists.specs.Records.{flat}
 use Rattle.base_lists.specs.Windows.{spliced}
@@ -10,8 +10,6 @@ use Rattle.base_scope.specs.Limits.{SPAN_ROW, BLOCK_LIMIT}
 use Rattle.blocks_places.specs.Lines.{line_count}
 use Rattle.blocks_places.specs.Places.{Place}
 use Rattle.blocks_spans.specs.declared.Span.{Span}
-use Rattle.blocks_spans.specs.declared.NextSpan.{NextSpan}
-use Rattle.blocks_spans.specs.declared.NextSpan.TheVariants.{NoSpan, Next}
 use Rattle.blocks_spans.specs.Spans.{span_end, is_span, span_of, spans_among, spans_of, span_at, last_end, Ascends}
 
 -- row r of a table, and its first n rows
@@ -45,7 +43,7 @@ pub record Rows (table : List ℕ) (n : ℕ) : Type 0 where
   pub fits : SPAN_ROW * n ≤ length table
   pub ascends : Ascends (spans_in table n)
 
-abbrev pick_span : Bool → NextSpan → NextSpan → NextSpan
+abbrev pick_span : Bool → Option Span → Option Span → Option Span
 pick_span true a b = a
 pick_span false a b = b
 
@@ -57,5 +55,5 @@ module _ (L : List Span) where
   unfoldable pub span_from : ℕ → ℕ
   span_from k = first (ends_behind k) 0 (length L)
 
-  unfoldable pub next_span : ℕ → NextSpan
-  next_span k = pick_span (ltb (span_from k) (length L)) (Next (span_at L (span_from k))) NoSpan
+  unfoldable pub next_span : ℕ → Option Span
+  next_span k = pick_span (ltb (span_from k) (length L)) (Some (span_at L (span_from k))) None

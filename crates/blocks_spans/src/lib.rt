@@ -22,13 +22,6 @@ pub struct Span {
     pub size: usize,
 }
 
-// The first span of a section that ends behind an offset, or none.
-#[derive(Clone, Copy)]
-pub enum NextSpan {
-    NoSpan,
-    Next(Span),
-}
-
 // Line j's turn in gathering: its row goes behind the r rows before it, where it has a span of the code. Answers how many rows there are then.
 fn store_span(
     file: &[u8],
@@ -69,10 +62,8 @@ pub fn gather_spans(
     ensures { Gathered (spans_of (places_in places.now (line_count file.now)) file.now code) result rows.old rows.new }
 {
     let mut r: usize = 0;
-    let mut j: usize = 0;
-    while j < base_scope::LINES * blocks {
+    for j in 0..base_scope::LINES * blocks {
         r = store_span(file, table, places, code, j, r, rows);
-        j += 1;
     }
     r
 }
@@ -101,11 +92,9 @@ pub fn span_ends(
     ensures { result ≡ span_ends (places_in places.now (line_count file.now)) file.now }
 {
     let mut ends = [0usize; base_scope::CODE_INDICES];
-    let mut j: usize = 0;
-    while j < base_scope::LINES * blocks {
+    for j in 0..base_scope::LINES * blocks {
         let code = base_scope::line_code(j) as usize;
         ends[code] = end_behind(file, table, places, j, ends[code]);
-        j += 1;
     }
     ends
 }
@@ -148,16 +137,16 @@ fn first_behind(rows: &[u8], n: usize, k: usize) -> usize
     low
 }
 
-// The first of the spans in n rows that ends behind offset k: the one over k, or the next one.
-pub fn next_span(rows: &[u8], n: usize, k: usize) -> NextSpan
+// The first of the spans in n rows that ends behind offset k: the one over k, or the next one, or none.
+pub fn next_span(rows: &[u8], n: usize, k: usize) -> Option<Span>
     requires { Rows rows.now n }
     ensures { result ≡ next_span (spans_in rows.now n) k }
 {
     let r = first_behind(rows, n, k);
     if r < n {
-        return NextSpan::Next(span_at(rows, r));
+        return Some(span_at(rows, r));
     }
-    NextSpan::NoSpan
+    None
 }
 
 // Whether offset k is the start of a word of one of the spans in n rows.
@@ -166,8 +155,8 @@ pub fn is_replaced(rows: &[u8], n: usize, k: usize) -> bool
     ensures { result ≡ replaced_word (spans_in rows.now n) k }
 {
     match next_span(rows, n, k) {
-        NextSpan::NoSpan => false,
-        NextSpan::Next(s) => {
+        None => false,
+        Some(s) => {
             if k < s.place {
                 return false;
             }

@@ -12,7 +12,7 @@ use lib.Seq.{length-take-le, get_or-take}
 use lib.Dec.{eqb, ltb, leb}
 use borrow.Author.Tests.{eq-eqb, ne_eqb, eqb-true, eqb-false, lt-ltb, ltb-true, leb-true, lt-leb, not-true, not-false}
 use Rattle.base_lists.specs.Ranges.{first, IsFirst}
-use Rattle.base_lists.proofs.Ranges.{and_parts, by-test, both, by-lt, first_none, none_first, first_is, first_high}
+use Rattle.base_lists.proofs.Ranges.{and_parts, by-test, by-lt, first_none, none_first, first_is, first_high}
 use Rattle.base_lists.proofs.Windows.{drop_next}
 use Rattle.base_names.specs.Words.{byte_at, first_byte}
 use Rattle.base_scope.specs.Limits.{NUMBER_LIMIT, ALIGN8_LIMIT}
@@ -28,13 +28,15 @@ module _ (p : ℕ → Bool) (v : List ℕ) where
   unfolding every
   every_true t i h = not-false _ (none_first (λ j. not (p (get_or v j 0))) 0 (length v) i (eqb-true _ _ t) (omega arith) h)
 
-  -- a loop along v has seen only bytes that pass, or meets one that does not
   pub every_all : ((i : ℕ) → i < length v → p (get_or v i 0) ≡ true) → every p v ≡ true
   unfolding every
   every_all all = eq-eqb _ _ (first_none (λ j. not (p (get_or v j 0))) 0 (length v) (omega arith) (λ j l h. ap not (all j h)))
 
-  pub every_not : (i : ℕ) → i < length v → p (get_or v i 0) ≡ false → every p v ≡ false
-  every_not i h f = by-test (every p v) (λ t. both (every_true t i h) f) (λ n. n)
+  -- a test that is true exactly when every byte passes
+  pub every_is : (b : Bool)
+      → (b ≡ true → (i : ℕ) → i < length v → p (get_or v i 0) ≡ true) × (((i : ℕ) → i < length v → p (get_or v i 0) ≡ true) → b ≡ true) → b ≡ every p v
+  every_is true h = sym (every_all (h.0 refl))
+  every_is false h = by-test (every p v) (λ t. h.1 (every_true t) ∙ sym t) (λ n. sym n)
 
 pub digit_range : (x : ℕ) → is_digit x ≡ true → (48 ≤ x) × (x ≤ 57)
 unfolding is_digit

@@ -34,30 +34,14 @@ fn is_hex_digit(x: u8) -> bool
 fn are_digits(v: &[u8]) -> bool
     ensures { result ≡ every is_digit v.now }
 {
-    let mut i: usize = 0;
-    while i < v.len() {
-        if is_digit(v[i]) {
-            i += 1;
-        } else {
-            return false;
-        }
-    }
-    true
+    v.iter().all(|x| is_digit(*x))
 }
 
 // Whether every byte is a hex digit.
 fn are_hex_digits(v: &[u8]) -> bool
     ensures { result ≡ every is_hex_digit v.now }
 {
-    let mut i: usize = 0;
-    while i < v.len() {
-        if is_hex_digit(v[i]) {
-            i += 1;
-        } else {
-            return false;
-        }
-    }
-    true
+    v.iter().all(|x| is_hex_digit(*x))
 }
 
 // Whether v writes a number in digits, with no leading zero.
@@ -86,10 +70,8 @@ pub fn decimal_of(v: &[u8]) -> usize
     ensures { result ≡ decimal v.now }
 {
     let mut n: usize = 0;
-    let mut i: usize = 0;
-    while i < v.len() {
-        n = n * 10 + (byte_value(v[i]) - 48);
-        i += 1;
+    for x in v {
+        n = n * 10 + (byte_value(*x) - 48);
     }
     n
 }

@@ -1,4 +1,5 @@
 -- The tables of A that join one of C, as the code tests them. Assumes nothing.
+use Rattle.std.specs.Prelude.{Option}
 use Prim.Native.Nat.{ℕ, ◌+◌, ◌≤◌, ◌<◌, min}
 use mathlib.Core.Path.{◌≡◌, sym, ap, ◌∙◌}
 use mathlib.Core.Bool.{Bool, true, false, not}
@@ -12,7 +13,6 @@ use Rattle.base_lists.specs.Ranges.{first, least}
 use Rattle.base_lists.proofs.Ranges.{by-test, and_parts, least_next, least_high}
 use Rattle.base_fields.specs.declared.ByteOrder.{ByteOrder}
 use Rattle.base_scope.specs.Codes.{TEXT, DATA, RODATA, BSS, LATE_RODATA, LINES, CODES, target_code}
-use Rattle.base_scope.specs.declared.Finding.{Finding}
 use Rattle.base_scope.specs.Refusals.{found_below}
 use Rattle.elf_records.specs.declared.section.SectionHeader.{SectionHeader}
 use Rattle.elf_readers.specs.Readers.{section_count, section, section_named, coded_contents}
@@ -186,7 +186,7 @@ module _ (o : ByteOrder) (C : List ℕ) (c : ℕ) (a b d e : List ℕ) where
 
 -- ---- together
 
-pub clash_found : (o : ByteOrder) (C A : List ℕ) (flag n stay cut clash low : ℕ) (r : Finding) → r ≡ found_below n low → n ≡ section_count o C → stay ≡ kept o C flag
+pub clash_found : (o : ByteOrder) (C A : List ℕ) (flag n stay cut clash low : ℕ) (r : Option ℕ) → r ≡ found_below n low → n ≡ section_count o C → stay ≡ kept o C flag
     → cut ≡ first (is_cut o C stay) 0 (section_count o C) → clash ≡ least (joined_section o C A) (is_misjoined o C A stay) (section_count o C) (section_count o A) → low ≡ min cut clash
     → r ≡ clash_finding o C A flag
 unfolding clash_finding clash_at

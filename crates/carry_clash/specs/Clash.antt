@@ -1,11 +1,10 @@
 -- Refusal 10 (document 01, "Carrying", and its table): the lowest section of C at fault. C is the compiled object, A the assembled one; `flag` says whether trailing sections are
 -- dropped.
-use Rattle.std.specs.Prelude.{ℕ, min, Bool, cond, not, ◌&&◌, ◌||◌, List, ◌++◌, length, eqb, ltb}
+use Rattle.std.specs.Prelude.{ℕ, min, Bool, cond, not, ◌&&◌, ◌||◌, List, ◌++◌, length, eqb, ltb, Option}
 use Rattle.base_lists.specs.Ranges.{first, least, pick_list}
 use Rattle.base_fields.specs.declared.ByteOrder.{ByteOrder}
 use Rattle.base_scope.specs.Text.{text}
 use Rattle.base_scope.specs.Codes.{TEXT, DATA, RODATA, LINES, code_name, target_code}
-use Rattle.base_scope.specs.declared.Finding.{Finding}
 use Rattle.base_scope.specs.Refusals.{found_below}
 use Rattle.elf_readers.specs.Readers.{section_count, section, section_named, coded_section, coded_contents}
 use Rattle.elf_symbols.specs.Symbols.{symbol_count, symbol}
@@ -76,5 +75,5 @@ module _ (o : ByteOrder) (C A : List ℕ) where
   clash_at stay =
       min (first (is_cut o C stay) 0 (section_count o C)) (least joined_section (is_misjoined stay) (section_count o C) (section_count o A))
 
-  unfoldable pub clash_finding : ℕ → Finding
+  unfoldable pub clash_finding : ℕ → Option ℕ
   clash_finding flag = found_below (section_count o C) (clash_at (kept o C flag))

@@ -11,7 +11,6 @@ ghost use Rattle.symbols_taken.specs.of_elf_check.View.{Viewed};
 ghost use Rattle.carry_clash.specs.Clash.{is_stale, leads_out, holds_symbol, is_missed, is_cut, joined_name, name_among, is_carried, is_other_table, joined_section, is_misjoined, clash_of, clash_finding};
 
 use base_fields::ByteOrder;
-use base_scope::Finding;
 pub use symbols_taken;
 use symbols_taken::elf_check;
 use symbols_taken::elf_check::View;
@@ -56,13 +55,11 @@ fn holds_symbol(order: ByteOrder, compiled: &[u8], view: View, i: usize) -> bool
     let symbols = view.symbols;
     let at = symbols.at;
     let n = symbols.count;
-    let mut k: usize = 0;
-    while k < n {
+    for k in 0..n {
         let e = elf_symbols::symbol_at(order, compiled, at, k);
         if e.st_shndx as usize == i {
             return true;
         }
-        k += 1;
     }
     false
 }
@@ -98,12 +95,10 @@ fn first_cut(order: ByteOrder, compiled: &[u8], view: View, stay: usize) -> usiz
     ensures { result ≡ first (is_cut order compiled.now stay) 0 (section_count order compiled.now) }
 {
     let n = view.sections;
-    let mut i: usize = 0;
-    while i < n {
+    for i in 0..n {
         if is_cut(order, compiled, view, stay, i) {
             return i;
         }
-        i += 1;
     }
     n
 }
@@ -241,11 +236,9 @@ fn first_clash(
 {
     let n = source.sections;
     let mut best = target.sections;
-    let mut t: usize = 0;
-    while t < n {
+    for t in 0..n {
         let at = clash_of(order, compiled, assembled, target, source, stay, t);
         best = lower(at, best);
-        t += 1;
     }
     best
 }
@@ -258,7 +251,7 @@ pub fn clash_fault(
     target: View,
     source: View,
     flag: u32,
-) -> Finding
+) -> Option<usize>
     requires { Viewed order compiled.now target × Viewed order assembled.now source }
     ensures { result ≡ clash_finding order compiled.now assembled.now flag }
 {

@@ -1,4 +1,5 @@
 -- The entries of a table together: how many are kept, their bytes as they are written one behind the other, and the lowest that is lost. Assumes nothing.
+use Rattle.std.specs.Prelude.{Option}
 use Prim.Native.Nat.{ℕ, zero, suc, ◌+◌, ◌-◌, ◌*◌, ◌/◌, ◌≤◌, ◌<◌, min}
 use mathlib.Core.Path.{◌≡◌, refl, sym, ap, ◌∙◌}
 use mathlib.Core.Logic.{◌⊎◌, ⊎_elim}
@@ -17,7 +18,6 @@ use Rattle.base_fields.specs.Layouts.{width_of}
 use Rattle.elf_records.specs.declared.relocation.RelocationEntry.{RelocationEntry}
 use Rattle.elf_records.specs.Relocation.{relocation_layout, addend_of, relocation_from, present, has_addend, relocation_at, relocation_bytes}
 use Rattle.elf_records.proofs.RoundTrip.{length_relocation}
-use Rattle.base_scope.specs.declared.Finding.{Finding}
 use Rattle.base_scope.specs.Refusals.{found_below}
 use Rattle.elf_readers.specs.Readers.{section_count, section}
 use Rattle.elf_readers.specs.Bounds.{Headed}
@@ -294,7 +294,7 @@ module _ (o : ByteOrder) (F : List ℕ) (w : Carrying) where
   unfolding fault_below
   fault_next t best r e f = f ∙ rw e (sym (least_next (loss_in o F w) w.tables OFFSETS t))
 
-  pub fault_end : (t best : ℕ) → best ≡ fault_below t → t ≡ section_count o F → (r : Finding) → r ≡ found_below OFFSETS best → r ≡ loss_finding o F w
+  pub fault_end : (t best : ℕ) → best ≡ fault_below t → t ≡ section_count o F → (r : Option ℕ) → r ≡ found_below OFFSETS best → r ≡ loss_finding o F w
   unfolding fault_below loss_finding loss_at
   fault_end t best e q r f = f ∙ ap (found_below OFFSETS) (e ∙ ap fault_below q)
 

@@ -1,4 +1,5 @@
 -- What each way through the code says of one entry: where it goes, what its symbol becomes, and whether it is lost. Assumes nothing.
+use Rattle.std.specs.Prelude.{None, Some, Option}
 use Prim.Native.Nat.{ℕ, zero, suc, ◌+◌, ◌-◌, ◌*◌, ◌%◌, ◌^◌, ◌≤◌, ◌<◌}
 use mathlib.Core.Path.{◌≡◌, refl, sym, ap, ◌∙◌}
 use mathlib.Core.Logic.{◌⊎◌, inl, inr, ⊎_elim}
@@ -30,14 +31,12 @@ use Rattle.blocks_spans.specs.Spans.{span_end, span_at, covers, replaced_word}
 use Rattle.blocks_spans.specs.Table.{span_in, spans_in, Rows}
 use Rattle.blocks_spans.proofs.Spans.{covers_of, covers_not, covered_none, span_some, ends_up, replaced_none, replaced_over}
 use Rattle.blocks_spans.proofs.Table.{length_in, span_in_lem}
-use Rattle.carry_clash.specs.of_late_lookups.declared.LatePlace.{LatePlace}
-use Rattle.carry_clash.specs.of_late_lookups.declared.LatePlace.TheVariants.{Moved, Unmoved as NotMoved}
 use Rattle.carry_clash.specs.of_late_lookups.Fields.{offset_at, jump_at}
 use Rattle.carry_clash.specs.of_symbols_taken.Used.{is_source_table}
 use Rattle.carry_clash.specs.of_symbols_taken.Code.{code_in}
 use Rattle.carry_clash.proofs.of_symbols_taken.Sections.{code_is, table_kind}
 use Rattle.symbols_rows.specs.Rows.{half_in}
-use Rattle.symbols_numbers.specs.declared.NewSymbol.{NewSymbol}
+use Rattle.base_packed.specs.declared.MergedSymbol.{MergedSymbol}
 use Rattle.symbols_numbers.specs.Numbers.{new_symbol, new_in}
 use Rattle.symbols_numbers.proofs.Leaves.{new_in_lem, new_past}
 use Rattle.carry_clash.specs.Clash.{is_carried}
@@ -203,11 +202,11 @@ module _ (s : Side) (c : ℕ) where
         w.stay x (leb-true _ _ p.0) (ltb-true _ _ p.1)
 
 module _ (runs : Bool) (late : List ℕ) (n x : ℕ) where
-  pub late_to : (r : LatePlace) (p : ℕ) → runs ≡ true → r ≡ offset_at late n x → r ≡ Moved p → To p ≡ pick_goal runs (late_goal (offset_at late n x)) Unmoved
+  pub late_to : (r : Option ℕ) (p : ℕ) → runs ≡ true → r ≡ offset_at late n x → r ≡ Some p → To p ≡ pick_goal runs (late_goal (offset_at late n x)) Unmoved
   unfolding late_goal
   late_to r p t e m = rw (t, ← e, m)
 
-  pub late_stuck : (r : LatePlace) → runs ≡ true → r ≡ offset_at late n x → r ≡ NotMoved → Unmoved ≡ pick_goal runs (late_goal (offset_at late n x)) Unmoved
+  pub late_stuck : (r : Option ℕ) → runs ≡ true → r ≡ offset_at late n x → r ≡ None → Unmoved ≡ pick_goal runs (late_goal (offset_at late n x)) Unmoved
   unfolding late_goal
   late_stuck r t e m = rw (t, ← e, m)
 
@@ -230,11 +229,11 @@ module _ (N : List ℕ) (first count k : ℕ) where
   number_past h = rw (new_past N first count k h)
 
 module _ (s : Side) (N : List ℕ) (info : ℕ) where
-  pub symbol_compiled : s.first ≡ 0 → (k : ℕ) → k ≡ symbol_of info → (r : NewSymbol) → r ≡ new_in N 0 s.view.symbols.count k → r ≡ symbol_in s N info
+  pub symbol_compiled : s.first ≡ 0 → (k : ℕ) → k ≡ symbol_of info → (r : Option MergedSymbol) → r ≡ new_in N 0 s.view.symbols.count k → r ≡ symbol_in s N info
   unfolding symbol_in
   symbol_compiled z k e r f = rw (z, ← e) f
 
-  pub symbol_assembled : (k : ℕ) → k ≡ symbol_of info → (r : NewSymbol) → r ≡ new_in N s.first s.view.symbols.count k → r ≡ symbol_in s N info
+  pub symbol_assembled : (k : ℕ) → k ≡ symbol_of info → (r : Option MergedSymbol) → r ≡ new_in N s.first s.view.symbols.count k → r ≡ symbol_in s N info
   unfolding symbol_in
   symbol_assembled k e r f = rw (← e) f
 
@@ -288,7 +287,7 @@ or_true true true = refl
 or_true true false = refl
 or_true false b = refl
 
-module _ (s : Side) (rows late N : List ℕ) (c : ℕ) (e : RelocationEntry) (m : NewSymbol) (is : m ≡ symbol_in s N e.r_info) (b : Bool) (found : b ≡ is_in_result m) where
+module _ (s : Side) (rows late N : List ℕ) (c : ℕ) (e : RelocationEntry) (m : Option MergedSymbol) (is : m ≡ symbol_in s N e.r_info) (b : Bool) (found : b ≡ is_in_result m) where
   module _ (y : b ≡ true) where
     lost_there : is_stuck (goal_in (moves_of s) rows late c e.r_offset) ≡ is_lost_entry s rows late N c e
     unfolding is_lost_entry is_kept_entry

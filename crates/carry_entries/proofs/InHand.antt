@@ -1,4 +1,5 @@
 -- What is in hand to carry the entries of C and of A is what document 01's definitions say of C, A, and the places P of the lines of the block file B. Assumes nothing.
+use Rattle.std.specs.Prelude.{None, Some, Option}
 use Prim.Native.Nat.{ℕ, ◌+◌, ◌^◌, ◌≤◌, ◌<◌}
 use mathlib.Core.Path.{◌≡◌, refl, sym, ap, ◌∙◌, fun_ext}
 use mathlib.Core.Bool.{Bool, true, false, ◌&&◌, ◌||◌}
@@ -10,7 +11,6 @@ use Rattle.base_lists.proofs.Ranges.{by-test, both}
 use Rattle.base_fields.specs.declared.ByteOrder.{ByteOrder}
 use Rattle.base_scope.specs.Codes.{TEXT, LATE_RODATA, LATE_TARGET, leaves_out, is_late_target}
 use Rattle.base_scope.specs.Limits.{ID_LIMIT}
-use Rattle.base_scope.specs.declared.Finding.{Finding}
 use Rattle.base_scope.proofs.Codes.{leaves_text}
 use Rattle.base_answers.specs.Answers.{COMPILED, ASSEMBLED}
 use Rattle.base_answers.specs.Verdicts.{also, finding_verdict}
@@ -26,7 +26,6 @@ use Rattle.blocks_spans.specs.Table.{spans_in}
 use Rattle.blocks_spans.specs.Copied.{copied}
 use Rattle.late_length.specs.Late.{has_late_step}
 use Rattle.carry_clash.specs.of_late_moves.Moved.{is_moved, is_jump_word, moved_place}
-use Rattle.carry_clash.specs.of_late_lookups.declared.LatePlace.TheVariants.{Moved, Unmoved as NotMoved}
 use Rattle.carry_clash.specs.of_late_lookups.Fields.{pick_late_place, offset_at, jump_at}
 use Rattle.carry_clash.specs.of_late_lookups.Lookups.{moved_offset}
 use Rattle.carry_clash.proofs.of_late_lookups.Lookups.{late_rows, offset_moved, jump_moved}
@@ -60,7 +59,7 @@ goal_assembled : (s : Side) (rows late : List ℕ) (c x : ℕ) → s.compiled �
 unfolding goal_in
 goal_assembled s rows late c x n = rw n
 
-moved_goal : (b : Bool) (p : ℕ) → late_goal (pick_late_place b (Moved p) NotMoved) ≡ pick_goal b (To p) Unmoved
+moved_goal : (b : Bool) (p : ℕ) → late_goal (pick_late_place b (Some p) None) ≡ pick_goal b (To p) Unmoved
 unfolding late_goal
 moved_goal true p = refl
 moved_goal false p = refl
@@ -229,8 +228,8 @@ module _ (C A : List ℕ) (P : List Place) (B : List ℕ) (mode head : ℕ) (N :
   carry_is =
       let w' : NumbersOf (merge_candidates a.order C A P B mode head) N = rw same w in
       let p = loss_c_lem C A P B mode head N c rows late hc w is in
-      let found : Finding = loss_finding c.order C (carrying_c c.order C A P B mode head) in
+      let found : Option ℕ = loss_finding c.order C (carrying_c c.order C A P B mode head) in
       let q : loss_finding a.order A (carrying_in A a rows late N) ≡ loss_finding c.order A (carrying_a c.order C A P B mode head) =
       loss_a_lem C A P B mode head N a rows late ha w' of ∙ ap (λ (e : ByteOrder). loss_finding e A (carrying_a e C A P B mode head)) same in
-      ap (λ (x : Finding). also (finding_verdict LOST_ENTRY COMPILED x) (finding_verdict LOST_ENTRY ASSEMBLED (loss_finding a.order A (carrying_in A a rows late N)))) p
-      ∙ ap (λ (x : Finding). also (finding_verdict LOST_ENTRY COMPILED found) (finding_verdict LOST_ENTRY ASSEMBLED x)) q
+      ap (λ (x : Option ℕ). also (finding_verdict LOST_ENTRY COMPILED x) (finding_verdict LOST_ENTRY ASSEMBLED (loss_finding a.order A (carrying_in A a rows late N)))) p
+      ∙ ap (λ (x : Option ℕ). also (finding_verdict LOST_ENTRY COMPILED found) (finding_verdict LOST_ENTRY ASSEMBLED x)) q

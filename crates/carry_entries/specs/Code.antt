@@ -1,6 +1,6 @@
 -- Of the code, not of document 01: what is in hand to carry the entries of an object, C or A. Its sections are read by its view, C's spans of .text in a table of rows, the
 -- late step in its table, and the numbers of its symbols in two bytes for each id. proofs/InHand.antt says what each is of C, A, P and B.
-use Rattle.std.specs.Prelude.{ℕ, ◌+◌, ◌*◌, ◌^◌, ◌≤◌, ◌<◌, ◌≡◌, Bool, true, false, not, cond, ◌&&◌, ◌||◌, List, [], length, eqb}
+use Rattle.std.specs.Prelude.{ℕ, ◌+◌, ◌*◌, ◌^◌, ◌≤◌, ◌<◌, ◌≡◌, Bool, true, false, not, cond, ◌&&◌, ◌||◌, List, [], length, eqb, None, Some, Option}
 use Rattle.base_lists.specs.Ranges.{pick_list}
 use Rattle.base_fields.specs.declared.ByteOrder.{ByteOrder}
 use Rattle.base_packed.specs.Packed.{symbol_of, kind_of, relocation_info}
@@ -12,13 +12,11 @@ use Rattle.elf_relocations.specs.Relocations.{is_rela, is_table, entry_size, rel
 use Rattle.elf_check.specs.View.{Viewed}
 use Rattle.blocks_spans.specs.Spans.{replaced_word}
 use Rattle.blocks_spans.specs.Table.{spans_in, Rows}
-use Rattle.carry_clash.specs.of_late_lookups.declared.LatePlace.{LatePlace}
-use Rattle.carry_clash.specs.of_late_lookups.declared.LatePlace.TheVariants.{Moved, Unmoved as NotMoved}
 use Rattle.carry_clash.specs.of_late_lookups.Fields.{offset_at, jump_at}
 use Rattle.carry_clash.specs.of_symbols_taken.Used.{code_of}
 use Rattle.carry_clash.specs.of_symbols_taken.Code.{LateIn}
 use Rattle.symbols_rows.specs.Rows.{half_in}
-use Rattle.symbols_numbers.specs.declared.NewSymbol.{NewSymbol}
+use Rattle.base_packed.specs.declared.MergedSymbol.{MergedSymbol}
 use Rattle.symbols_numbers.specs.Numbers.{new_in}
 use Rattle.carry_clash.specs.Clash.{is_carried}
 use Rattle.carry_entries.specs.declared.Goal.{Goal}
@@ -31,9 +29,9 @@ use Rattle.carry_entries.specs.Entries.{Carrying, is_left_out, is_stuck, goal_pl
 use Rattle.carry_entries.specs.Carried.{pick_goal}
 
 -- where an entry at a late offset goes, by the place of that
-unfoldable pub late_goal : LatePlace → Goal
-late_goal (Moved x) = To x
-late_goal NotMoved = Unmoved
+unfoldable pub late_goal : Option ℕ → Goal
+late_goal (Some x) = To x
+late_goal None = Unmoved
 
 -- one of two tests, by a third
 abbrev pub pick_tables : Bool → (ℕ → Bool) → (ℕ → Bool) → ℕ → Bool
@@ -73,7 +71,7 @@ unfoldable pub is_kept_entry : Side → List ℕ → List ℕ → ℕ → Reloca
 is_kept_entry s rows late c e = not (is_left_out (goal_in (moves_of s) rows late c e.r_offset))
 
 -- what its symbol becomes
-unfoldable pub symbol_in : Side → List ℕ → ℕ → NewSymbol
+unfoldable pub symbol_in : Side → List ℕ → ℕ → Option MergedSymbol
 symbol_in s N info = new_in N s.first s.view.symbols.count (symbol_of info)
 
 -- it is at fault by 20

@@ -1,18 +1,16 @@
 -- The entries of an object's relocation tables as they stand in the result (document 01, "Carrying"): some are left out; the others stay in old order, at their place, with the
 -- number of their symbol in the result and their own kind and addend. And refusal 20. F is the object, o its byte order.
-use Rattle.std.specs.Prelude.{ℕ, ◌^◌, Bool, true, false, not, ◌&&◌, ◌||◌, List}
+use Rattle.std.specs.Prelude.{ℕ, ◌^◌, Bool, true, false, not, ◌&&◌, ◌||◌, List, None, Some, Option}
 use Rattle.base_lists.specs.Ranges.{least, count, gather}
 use Rattle.base_fields.specs.declared.ByteOrder.{ByteOrder}
 use Rattle.base_packed.specs.Packed.{symbol_of, kind_of, relocation_info}
-use Rattle.base_scope.specs.declared.Finding.{Finding}
 use Rattle.base_scope.specs.Refusals.{found_below}
 use Rattle.elf_records.specs.declared.relocation.RelocationEntry.{RelocationEntry}
 use Rattle.elf_records.specs.Relocation.{relocation_bytes}
 use Rattle.elf_readers.specs.Readers.{section_count, section}
 use Rattle.elf_relocations.specs.Relocations.{relocation_count, relocation}
 use Rattle.carry_clash.specs.of_symbols_taken.Used.{code_of}
-use Rattle.symbols_numbers.specs.declared.NewSymbol.{NewSymbol}
-use Rattle.symbols_numbers.specs.declared.NewSymbol.TheVariants.{Merged, Gone}
+use Rattle.base_packed.specs.declared.MergedSymbol.{MergedSymbol}
 use Rattle.carry_entries.specs.declared.Goal.{Goal}
 use Rattle.carry_entries.specs.declared.Goal.TheVariants.{To, LeftOut, Unmoved}
 
@@ -33,19 +31,19 @@ goal_place LeftOut = 0
 goal_place Unmoved = 0
 
 -- what a symbol becomes: its number in the result, where it is in it
-unfoldable pub is_in_result : NewSymbol → Bool
-is_in_result (Merged n) = true
-is_in_result Gone = false
+unfoldable pub is_in_result : Option MergedSymbol → Bool
+is_in_result (Some n) = true
+is_in_result None = false
 
-unfoldable pub new_number : NewSymbol → ℕ
-new_number (Merged n) = n.0
-new_number Gone = 0
+unfoldable pub new_number : Option MergedSymbol → ℕ
+new_number (Some n) = n.0
+new_number None = 0
 
 -- how an object's entries are carried: by which tables; where an entry for the section of a code goes, by its offset; and what a symbol becomes
 pub record Carrying : Type 0 where
   pub tables : ℕ → Bool
   pub goal : ℕ → ℕ → Goal
-  pub new : ℕ → NewSymbol
+  pub new : ℕ → Option MergedSymbol
 
 -- offsets are below
 abbrev pub OFFSETS : ℕ
@@ -56,7 +54,7 @@ module _ (o : ByteOrder) (F : List ℕ) (w : Carrying) where
   unfoldable pub entry_goal : ℕ → ℕ → Goal
   entry_goal t k = w.goal (code_of o F (section o F t).sh_info) (relocation o F t k).r_offset
 
-  unfoldable pub entry_symbol : ℕ → ℕ → NewSymbol
+  unfoldable pub entry_symbol : ℕ → ℕ → Option MergedSymbol
   entry_symbol t k = w.new (symbol_of (relocation o F t k).r_info)
 
   unfoldable pub is_kept : ℕ → ℕ → Bool
@@ -87,5 +85,5 @@ module _ (o : ByteOrder) (F : List ℕ) (w : Carrying) where
   unfoldable pub loss_at : ℕ
   loss_at = least loss_in w.tables OFFSETS (section_count o F)
 
-  unfoldable pub loss_finding : Finding
+  unfoldable pub loss_finding : Option ℕ
   loss_finding = found_below OFFSETS loss_at

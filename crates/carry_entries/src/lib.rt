@@ -28,12 +28,9 @@ ghost use Rattle.carry_entries.specs.Code.{entry_table_of, TableRead, IsGap, Sta
 
 use base_fields::ByteOrder;
 use base_packed::MergedSymbol;
-use base_scope::Finding;
-use carry_clash::late_lookups::LatePlace;
 use carry_clash::{late_lookups, symbols_taken};
 use elf_check::View;
 use elf_records::RelocationEntry;
-use symbols_numbers::NewSymbol;
 
 // Offsets are below.
 const OFFSETS: usize = 4294967296;
@@ -249,8 +246,8 @@ fn late_goal(runs: bool, late: &[u8], blocks: usize, x: u32) -> Goal
 {
     if runs {
         return match late_lookups::offset_at(late, blocks, x) {
-            LatePlace::Moved(place) => Goal::To(place as u32),
-            LatePlace::Unmoved => Goal::Unmoved,
+            Some(place) => Goal::To(place as u32),
+            None => Goal::Unmoved,
         };
     }
     Goal::Unmoved
@@ -320,7 +317,7 @@ fn stands_at(goal: Goal) -> usize
 }
 
 // What the symbol of an r_info becomes. C's symbols and A's are of different types.
-fn symbol_of(side: Side, numbers: &[u8], info: u32) -> NewSymbol
+fn symbol_of(side: Side, numbers: &[u8], info: u32) -> Option<MergedSymbol>
     requires { SymbolsRead side numbers.now }
     ensures { result ≡ symbol_in side numbers.now info }
 {
@@ -335,12 +332,12 @@ fn symbol_of(side: Side, numbers: &[u8], info: u32) -> NewSymbol
 }
 
 // Whether a symbol is in the result.
-fn is_in_result(symbol: NewSymbol) -> bool
+fn is_in_result(symbol: Option<MergedSymbol>) -> bool
     ensures { result ≡ is_in_result symbol }
 {
     match symbol {
-        NewSymbol::Merged(_) => true,
-        NewSymbol::Gone => false,
+        Some(_) => true,
+        None => false,
     }
 }
 
@@ -566,8 +563,7 @@ pub fn append_entries(
     let sought = is_sought(side, table.code);
     let mut gap = first_gap(side, rows, table.code);
     let mut next = at;
-    let mut k: usize = 0;
-    while k < n {
+    for k in 0..n {
         let entry = entry_at(file, order, table, k);
         gap = gap_for(sought, rows, spans, entry.r_offset as usize, gap);
         let mut place = entry.r_offset as usize;
@@ -575,7 +571,6 @@ pub fn append_entries(
             place = place_asked(side, rows, late, table.code, entry.r_offset, gap.row);
         }
         next = append_entry(out, next, side, numbers, table.size, place, entry);
-        k += 1;
     }
     next
 }
@@ -628,10 +623,8 @@ fn loss_in(
     let table = table_at(file, side, t);
     let n = elf_relocations::relocation_count(order, file, t);
     let mut lowest = best;
-    let mut k: usize = 0;
-    while k < n {
+    for k in 0..n {
         lowest = lower_loss(file, side, rows, late, numbers, table, k, lowest);
-        k += 1;
     }
     lowest
 }
@@ -670,7 +663,13 @@ fn loss_of(
 }
 
 // Refusal 20 of one object: the lowest offset of a lost entry.
-pub fn loss_fault(file: &[u8], side: Side, rows: &[u8], late: &[u8], numbers: &[u8]) -> Finding
+pub fn loss_fault(
+    file: &[u8],
+    side: Side,
+    rows: &[u8],
+    late: &[u8],
+    numbers: &[u8],
+) -> Option<usize>
     requires { EntriesRead file.now side rows.now late.now numbers.now }
     ensures { result ≡ loss_finding side.order file.now
         (carrying_in file.now side rows.now late.now numbers.now) }
@@ -678,10 +677,8 @@ pub fn loss_fault(file: &[u8], side: Side, rows: &[u8], late: &[u8], numbers: &[
     let view = side.view;
     let n = view.sections;
     let mut best = OFFSETS;
-    let mut t: usize = 0;
-    while t < n {
+    for t in 0..n {
         best = loss_of(file, side, rows, late, numbers, t, best);
-        t += 1;
     }
     base_scope::found_below(OFFSETS, best)
 }

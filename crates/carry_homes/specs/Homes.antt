@@ -11,7 +11,7 @@ use Rattle.elf_readers.specs.Readers.{section_count}
 use Rattle.elf_relocations.specs.Relocations.{is_rela}
 use Rattle.carry_clash.specs.Clash.{joined_name, carried_code, is_carried, joined_section}
 
--- 000 takes A's sections in the order.data, .text, .rodata, .bss, .late_rodata: the place of a code in it
+-- 000 takes A's sections in the order .data, .text, .rodata, .bss, .late_rodata: the place of a code in it
 unfoldable pub carried_rank : ℕ → ℕ
 carried_rank c = cond (eqb c DATA) 0 (cond (eqb c TEXT) 1 (c - 1))
 

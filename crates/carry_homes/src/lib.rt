@@ -110,10 +110,8 @@ fn list_rank(
 {
     let n = source.sections;
     let mut r = m;
-    let mut t: usize = 0;
-    while t < n {
+    for t in 0..n {
         r = append_table(order, assembled, source, rank, t, r, rows);
-        t += 1;
     }
     r
 }
@@ -125,10 +123,8 @@ pub fn list_tables(order: ByteOrder, assembled: &[u8], source: View, rows: &mut 
         × TablesListed order assembled.now (carried_count order assembled.now) rows.new }
 {
     let mut m: usize = 0;
-    let mut rank: usize = 0;
-    while rank < RANKS {
+    for rank in 0..RANKS {
         m = list_rank(order, assembled, source, rank, m, rows);
-        rank += 1;
     }
     m
 }
@@ -204,12 +200,10 @@ fn first_home(order: ByteOrder, assembled: &[u8], source: View, rows: &[u8], j: 
         × (j < carried_count order assembled.now) }
     ensures { result ≡ holder (same_home order assembled.now) (carried_count order assembled.now) j }
 {
-    let mut i: usize = 0;
-    while i < j {
+    for i in 0..j {
         if same_home(order, assembled, source, rows, j, i) {
             return i;
         }
-        i += 1;
     }
     j
 }
@@ -279,10 +273,8 @@ pub fn list_homes(
 {
     let tables = list_tables(order, assembled, source, rows);
     let mut opened: usize = 0;
-    let mut j: usize = 0;
-    while j < tables {
+    for j in 0..tables {
         opened = settle_home(order, compiled, assembled, source, stay, j, opened, rows);
-        j += 1;
     }
     Homes { tables, opened }
 }
@@ -292,12 +284,10 @@ pub fn opened_by(rows: &[u8], n: usize, stay: usize, i: usize) -> usize
     requires { (HOME_ROW * n ≤ length rows.now) × (stay + i < 2 ^ 32) }
     ensures { result ≡ opened_in rows.now n stay i }
 {
-    let mut j: usize = 0;
-    while j < n {
+    for j in 0..n {
         if home_at(rows, j) == stay + i {
             return j;
         }
-        j += 1;
     }
     n
 }

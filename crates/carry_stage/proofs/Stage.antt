@@ -7,10 +7,8 @@ use native.Mathlib.Omega.{arith}
 use Rattle.base_fields.specs.declared.ByteOrder.{ByteOrder}
 use Rattle.base_scope.specs.Codes.{LATE_TARGET}
 use Rattle.base_scope.specs.Limits.{ID_LIMIT, POSITION_TABLE, PLACE_TABLE}
-use Rattle.base_answers.specs.declared.Verdict.{Verdict}
-use Rattle.base_answers.specs.declared.Verdict.TheVariants.{Passed, Refused}
 use Rattle.base_answers.specs.Answers.{COMPILED, ASSEMBLED}
-use Rattle.base_answers.specs.Verdicts.{finding_verdict}
+use Rattle.base_answers.specs.Verdicts.{Passed, Refused, Verdict, finding_verdict}
 use Rattle.base_answers.proofs.Verdicts.{also_passed, also_refused}
 use Rattle.elf_readers.specs.Readers.{coded_contents}
 use Rattle.elf_symbols.specs.Symbols.{symbol_table}

@@ -3,9 +3,8 @@
 use Rattle.std.specs.Prelude.{ℕ, ◌≤◌, ◌≡◌, true, false, List, length}
 use Rattle.base_fields.specs.declared.ByteOrder.{ByteOrder}
 use Rattle.base_scope.specs.Codes.{TEXT, LATE_TARGET}
-use Rattle.base_answers.specs.declared.Verdict.{Verdict}
 use Rattle.base_answers.specs.Answers.{COMPILED, ASSEMBLED}
-use Rattle.base_answers.specs.Verdicts.{also, finding_verdict}
+use Rattle.base_answers.specs.Verdicts.{Verdict, also, finding_verdict}
 use Rattle.elf_readers.specs.Readers.{coded_contents}
 use Rattle.elf_check.specs.View.{Viewed}
 use Rattle.blocks_file.specs.Blocks.{block_count}

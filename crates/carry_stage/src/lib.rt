@@ -17,7 +17,7 @@ ghost use Rattle.carry_entries.specs.Carried.{LOST_ENTRY};
 ghost use Rattle.carry_entries.specs.Code.{carrying_in, EntriesRead};
 ghost use Rattle.carry_stage.specs.Carry.{TextSpansLeft, HomesLeft, CarryMade, side_of_c, side_of_a, carry_verdict_in, SidesRead, CarryJudged};
 
-use base_answers::Verdict;
+use base_answers::Refusal;
 pub use carry_entries;
 use carry_entries::Side;
 use carry_homes::Homes;
@@ -168,7 +168,7 @@ fn loss_verdict(
     rows: &[u8],
     late: &[u8],
     numbers: &[u8],
-) -> Verdict
+) -> Result<(), Refusal>
     requires { EntriesRead input.now side rows.now late.now numbers.now }
     ensures { result ≡ finding_verdict LOST_ENTRY object (loss_finding side.order input.now
         (carrying_in input.now side rows.now late.now numbers.now)) }
@@ -186,25 +186,22 @@ fn losses_verdict(
     rows: &[u8],
     late: &[u8],
     numbers: &[u8],
-) -> Verdict
+) -> Result<(), Refusal>
     requires { EntriesRead compiled.now (side_of_c stage carry) rows.now late.now numbers.now
         × EntriesRead assembled.now (side_of_a stage carry) rows.now late.now numbers.now }
     ensures { result ≡ carry_verdict_in compiled.now assembled.now stage carry rows.now late.now numbers.now }
 {
     let own = compiled_side(stage, carry);
     let other = assembled_side(stage, carry);
-    let verdict = loss_verdict(base_answers::COMPILED, compiled, own, rows, late, numbers);
-    if let Verdict::Passed = verdict {
-        return loss_verdict(
-            base_answers::ASSEMBLED,
-            assembled,
-            other,
-            rows,
-            late,
-            numbers,
-        );
-    }
-    verdict
+    loss_verdict(base_answers::COMPILED, compiled, own, rows, late, numbers)?;
+    loss_verdict(
+        base_answers::ASSEMBLED,
+        assembled,
+        other,
+        rows,
+        late,
+        numbers,
+    )
 }
 
 // Refusal 20.
@@ -215,7 +212,7 @@ pub fn carry_fault(
     carry: Carry,
     steps: &[u8],
     index: &[u8],
-) -> Verdict
+) -> Result<(), Refusal>
     requires { SidesRead compiled.now assembled.now stage carry steps.now index.now }
     ensures { CarryJudged compiled.now assembled.now stage carry result steps.now index.now }
 {

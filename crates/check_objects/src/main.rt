@@ -1,7 +1,7 @@
 // Checks objects as document 01 does: for each file that it is given it prints the name and `accepted`, or `refused`, number and place.
 #![tactic(auto)]
 
-use elf_check::Checked;
+use elf_check::Fault;
 use std::fs::File;
 use std::io::Read;
 use std::rt::Files;
@@ -14,10 +14,10 @@ fn print_refusal(rt: &impl Print, number: u32, place: usize) -> io::Result<()> {
     print!(rt; "refused {number} {place}")
 }
 
-fn print_answer(rt: &impl Print, answer: Checked) -> io::Result<()> {
+fn print_answer(rt: &impl Print, answer: Result<(), Fault>) -> io::Result<()> {
     match answer {
-        Checked::Accepted => print!(rt; "accepted"),
-        Checked::Refused(number, place) => print_refusal(rt, number, place),
+        Ok(()) => print!(rt; "accepted"),
+        Err(fault) => print_refusal(rt, fault.number, fault.place),
     }
 }
 

@@ -21,9 +21,7 @@ pub fn write_reginfo(out: &mut [u8], at: usize, compiled: &[u8], assembled: &[u8
     requires { at + length compiled.now ≤ length out.old }
     ensures { out.new ≡ spliced out.old at (joined compiled.now assembled.now) }
 {
-    let mut i: usize = 0;
-    while i < compiled.len() {
+    for i in 0..compiled.len() {
         out[at + i] = joined_byte(compiled, assembled, i);
-        i += 1;
     }
 }

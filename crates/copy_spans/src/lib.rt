@@ -1,7 +1,6 @@
 // The spans of all blocks as one lent list of records, and the walks over it (document 01, "Forms to change"): one checks the places of a section by 8's rule, one copies
 // the block bytes of a section from A over C's. Each walk equals its definition in specs/Records.antt, whatever the list holds. `write_copied` makes the list from the
 // tables of the core and lends it to both: what it writes equals `copied` of the crate blocks_spans ("Merge: ... Blocks are copied at their own offsets").
-// The derivations of the functions that hold a lent list are made by tools/twin.py.
 #![tactic(auto)]
 
 ghost use Rattle.std.specs.Prelude.{◌≡◌, true, ◌+◌, ◌*◌, ◌≤◌, ◌<◌, length};
@@ -89,15 +88,11 @@ pub fn fill_spans(
     ensures { Filled (places_in places.now (line_count file.now)) file.now result spans.new }
 {
     let mut n: usize = 0;
-    let mut j: usize = 0;
-    while j < base_scope::LINES * blocks {
+    for j in 0..base_scope::LINES * blocks {
         if blocks_places::is_taken(places, j) {
             let x = record_of(file, table, places, j);
             spans[n] = x;
             n += 1;
-            j += 1;
-        } else {
-            j += 1;
         }
     }
     n

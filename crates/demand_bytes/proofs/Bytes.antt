@@ -1,4 +1,5 @@
 -- Demand 3, bytes: each byte of a section of C that the merge does not write stands in the result's section of that index, at its offset. Assumes nothing.
+use Rattle.std.specs.Prelude.{None}
 use Prim.Native.Nat.{ℕ, ◌+◌, ◌*◌, ◌≤◌, ◌<◌}
 use mathlib.Core.Path.{◌≡◌, refl, sym, ap, ◌∙◌}
 use mathlib.Core.Logic.{◌≢◌}
@@ -18,7 +19,6 @@ use Rattle.base_fields.specs.Numbers.{encoded}
 use Rattle.base_fields.proofs.Numbers.{length_encoded}
 use Rattle.base_scope.specs.Elf.{SHT_NULL, SHT_NOBITS, SHT_MIPS_DEBUG}
 use Rattle.base_scope.specs.Codes.{BSS, LATE_RODATA, REGINFO}
-use Rattle.base_scope.specs.declared.Finding.TheVariants.{Clear}
 use Rattle.elf_readers.specs.Readers.{order_of, header, section_count, section, contents, coded_contents}
 use Rattle.elf_readers.proofs.Readers.{contents_none}
 use Rattle.elf_symbols.specs.Symbols.{symtab, strtab, symbol_strings}
@@ -124,7 +124,7 @@ module _ (o : ByteOrder) (C A : List ℕ) (P : List Place) (B path : List ℕ) (
             let z : x + j ≡ x = omega (arith, k) in
             ap (λ (y : ℕ). is_written o P B (coded_contents o C c) (coded_contents o A c) c y) z ∙ w
 
-  module _ (clear : moved_finding p o ≡ Clear) (i : ℕ) (stays : i < kept o C flag) where
+  module _ (clear : moved_finding p o ≡ None) (i : ℕ) (stays : i < kept o C flag) where
     abbrev type : ℕ
     type = (section o C i).sh_type
 

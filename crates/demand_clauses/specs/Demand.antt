@@ -1,11 +1,10 @@
 -- Demand 3 of an accepted merge: no reference is lost, doubled or redirected. O is the object that it gave back, read by the gABI's readers alone; C, A and the block file B are
 -- spoken of by document 01's definitions (specs/TakenOver.antt). The theorem is `no_reference_lost` of the crate demand_three.
-use Rattle.std.specs.Prelude.{ℕ, ◌+◌, ◌*◌, ◌≤◌, ◌<◌, ◌≡◌, ◌≢◌, Bool, true, false, cond, not, ◌&&◌, List, ◌++◌, length, get_or, take, drop, eqb, ltb, leb}
+use Rattle.std.specs.Prelude.{ℕ, ◌+◌, ◌*◌, ◌≤◌, ◌<◌, ◌≡◌, ◌≢◌, Bool, true, false, cond, not, ◌&&◌, List, ◌++◌, length, get_or, take, drop, eqb, ltb, leb, None}
 use Rattle.base_lists.specs.Ranges.{pick_list}
 use Rattle.base_fields.specs.declared.ByteOrder.{ByteOrder}
 use Rattle.base_scope.specs.Text.{text}
 use Rattle.base_scope.specs.Elf.{SHT_NULL, SHT_NOBITS, SHN_UNDEF, STB_LOCAL}
-use Rattle.base_scope.specs.declared.Finding.TheVariants.{Clear}
 use Rattle.elf_readers.specs.Readers.{order_of, section_count, header_place, section, section_name, section_named, contents, is_strtab}
 use Rattle.elf_header.specs.FileHeader.{header_fault}
 use Rattle.elf_sections.specs.Names.{name_fault}
@@ -43,19 +42,19 @@ module _ (o : ByteOrder) (C A : List ℕ) (P : List Place) (B path : List ℕ) (
   pub record Reads : Type 0 where
     -- document 01's checks: 2; of 3, that headers and bytes lie inside; 4; 5, with more symbols; 6
     pub order : order_of O ≡ o
-    pub header : header_fault o O ≡ Clear
+    pub header : header_fault o O ≡ None
     pub few_sections : section_count o O ≤ RESULT_SECTIONS
     pub headers : header_place o O (section_count o O) ≤ length O
     pub held : (i : ℕ) → i < section_count o O → (section o O i).sh_type ≢ SHT_NULL → (section o O i).sh_type ≢ SHT_NOBITS
         → (section o O i).sh_offset + (section o O i).sh_size ≤ length O
-    pub names : name_fault o O ≡ Clear
+    pub names : name_fault o O ≡ None
     pub symbol_entry : (section o O (symtab o O)).sh_entsize ≡ 16
     pub symbol_whole : (section o O (symtab o O)).sh_size ≡ 16 * symbol_count o O
     pub strings : is_strtab o O (strtab o O) ≡ true
     pub some_symbols : 1 ≤ symbol_count o O
     pub few_symbols : symbol_count o O ≤ RESULT_SYMBOLS
     pub symbols : (k : ℕ) → k < symbol_count o O → symbol_sound o O k ≡ true
-    pub tables : relocation_fault o O ≡ Clear
+    pub tables : relocation_fault o O ≡ None
     -- C's sections that stay keep index, name and type; those behind them are the tables that A's relocations need and C lacks
     pub sections : section_count o O ≡ stay + new_count o C A stay
     pub kept_names : (i : ℕ) → i < stay → section_name o O i ≡ section_name o C i

@@ -1,4 +1,4 @@
--- A small merge, as bytes. C's.text is four words, and its table has three entries: at 0 for g, at 4 and at 8 for f, where it defines f and not g. The block takes the word at 4,
+-- A small merge, as bytes. C's .text is four words, and its table has three entries: at 0 for g, at 4 and at 8 for f, where it defines f and not g. The block takes the word at 4,
 -- of A, which defines g there and calls f. So the entry at 4 is left out and A's comes behind the others. The result and each wrong output are one object but for .text, table and sh_info.
 use Rattle.std.specs.Prelude.{ℕ, ◌+◌, ◌*◌, List, [], ◌∷◌, ◌++◌, length}
 use Rattle.base_scope.specs.Text.{text}

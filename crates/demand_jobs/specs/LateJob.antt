@@ -1,4 +1,4 @@
--- A small merge with a late word, as bytes. C's.text is two words and has a RELA table; the block takes the word at 4 and has one dummy, at 4 of C's.rodata. A's.text and
+-- A small merge with a late word, as bytes. C's .text is two words and has a RELA table; the block takes the word at 4 and has one dummy, at 4 of C's .rodata. A's .text and
 -- .late_rodata have an entry each: the first joins C's table, the second opens a new one, .rel.rodata, and moves from 0 to 4. All three are for f, which nobody defines.
 use Rattle.std.specs.Prelude.{ℕ, ◌+◌, ◌*◌, List, [], ◌∷◌, ◌++◌, length}
 use Rattle.base_lists.specs.Windows.{spliced}

@@ -1,5 +1,6 @@
 -- Refusal 20 of an accepted merge: every entry that is kept has a place to go to, and its symbol is in the result. An offset is a number of four bytes, so that a lost entry's is
 -- below the bound that says none is lost. Assumes nothing.
+use Rattle.std.specs.Prelude.{None}
 use Prim.Native.Nat.{ℕ, ◌+◌, ◌*◌, ◌<◌}
 use mathlib.Core.Path.{◌≡◌}
 use mathlib.Core.Bool.{true, false, not, ◌||◌}
@@ -10,7 +11,6 @@ use borrow.Author.Tests.{not-false}
 use Rattle.base_lists.proofs.Ranges.{by-test, or_parts, least_below}
 use Rattle.base_fields.specs.declared.ByteOrder.{ByteOrder}
 use Rattle.base_fields.proofs.Numbers.{number_lt}
-use Rattle.base_scope.specs.declared.Finding.TheVariants.{Clear}
 use Rattle.base_scope.proofs.Refusals.{found_clear}
 use Rattle.base_answers.specs.Answers.{COMPILED, ASSEMBLED}
 use Rattle.base_answers.proofs.Verdicts.{also_parts, finding_passed}
@@ -31,7 +31,7 @@ offset_lt o F bytes t k =
     let x : ℕ = (section o F t).sh_offset + entry_size o F t * k in
     omega (arith, relocation_offset o F x (is_rela o F t), number_lt o 4 F x bytes)
 
-module _ (o : ByteOrder) (F : List ℕ) (w : Carrying) (bytes : (i : ℕ) → get_or F i 0 < 256) (clear : loss_finding o F w ≡ Clear) (t k : ℕ)
+module _ (o : ByteOrder) (F : List ℕ) (w : Carrying) (bytes : (i : ℕ) → get_or F i 0 < 256) (clear : loss_finding o F w ≡ None) (t k : ℕ)
     (h : t < section_count o F) (there : w.tables t ≡ true) (l : k < relocation_count o F t) where
   -- none is lost, since its offset would be found
   lost_not : is_lost o F w t k ≡ false
@@ -65,11 +65,11 @@ module _ (C A B path : List ℕ) (flag mode : ℕ) (O : List ℕ) (p : MergePass
   abbrev w_a : Carrying
   w_a = carrying_a (order_of C) C A (places_of (order_of C) C B) B mode (length (name_head mode path))
 
-  clear_c : loss_finding o C w_c ≡ Clear
+  clear_c : loss_finding o C w_c ≡ None
   unfolding carry_verdict
   clear_c = finding_passed LOST_ENTRY COMPILED _ (also_parts _ _ p.carried).0
 
-  clear_a : loss_finding o A w_a ≡ Clear
+  clear_a : loss_finding o A w_a ≡ None
   unfolding carry_verdict
   clear_a = finding_passed LOST_ENTRY ASSEMBLED _ (also_parts _ _ p.carried).1
 

@@ -1,5 +1,6 @@
 -- The references that the result owes and the entries of its tables, side by side: both rows go table by table, C's entries of a table that are kept and then those of A's tables
 -- that join it, so that each reference stands beside the entry that carries it. Assumes nothing.
+use Rattle.std.specs.Prelude.{None}
 use Prim.Native.Nat.{ℕ, ◌+◌, ◌/◌, ◌<◌}
 use mathlib.Core.Path.{◌≡◌, refl, sym, ap, ◌∙◌}
 use mathlib.Core.Logic.{◌⊎◌, inl, inr}
@@ -12,7 +13,6 @@ use borrow.Author.Tests.{lt-ltb, ltb-true, eqb-true}
 use Rattle.base_lists.specs.Ranges.{gather}
 use Rattle.base_lists.proofs.Ranges.{by-test, by-lt, both, gather_skip, gather_none, select_zero, select_all_length, select_all_at}
 use Rattle.base_fields.specs.declared.ByteOrder.{ByteOrder}
-use Rattle.base_scope.specs.declared.Finding.TheVariants.{Clear}
 use Rattle.base_answers.specs.Answers.{NONE, COMPILED, ASSEMBLED}
 use Rattle.elf_records.specs.declared.relocation.RelocationEntry.{RelocationEntry}
 use Rattle.elf_readers.specs.Readers.{order_of, section}
@@ -146,7 +146,7 @@ module _ (o : ByteOrder) (C A : List ℕ) (P : List Place) (B path : List ℕ) (
   unfolding references_a
   no_references t e = rw e (select_zero (λ k. true) (λ k. record { object = ASSEMBLED; table = t; entry = k }))
 
-  module _ (unclashed : clash_finding o C A flag ≡ Clear) (t : ℕ) (f : planned t ≡ false) where
+  module _ (unclashed : clash_finding o C A flag ≡ None) (t : ℕ) (f : planned t ≡ false) where
     joins_nothing : (j : ℕ) → j < carried_count o A → joins t j ≡ true → references_a o C A P B (carried_table o A j) ≡ []
     joins_nothing j h y = by-lt 0 (relocation_count o A (carried_table o A j))
         (λ l.
@@ -168,7 +168,7 @@ module _ (o : ByteOrder) (C A : List ℕ) (P : List Place) (B path : List ℕ) (
         rw (lt-ltb t stay h, n) joining_nothing
 
   -- so the tables alone bring references
-  origins_tables : clash_finding o C A flag ≡ Clear → origins o C A P B flag ≡ gather planned (origins_at o C A P B flag) many
+  origins_tables : clash_finding o C A flag ≡ None → origins o C A P B flag ≡ gather planned (origins_at o C A P B flag) many
   unfolding origins
   origins_tables unclashed =
       gather_skip (λ t. true) planned (origins_at o C A P B flag) many
@@ -192,7 +192,7 @@ module _ (o : ByteOrder) (C A : List ℕ) (P : List Place) (B path : List ℕ) (
   abbrev O : List ℕ
   O = merged_object o C A P B path flag mode
 
-  module _ (clear : moved_finding (merged_plan o C A P B path flag mode) o ≡ Clear) (unclashed : clash_finding o C A flag ≡ Clear) where
+  module _ (clear : moved_finding (merged_plan o C A P B path flag mode) o ≡ None) (unclashed : clash_finding o C A flag ≡ None) where
     module _ (t : ℕ) (h : t < many) (y : planned t ≡ true) where
       abbrev entries : List RelocationEntry
       entries = table_entries o C A P B path flag mode t

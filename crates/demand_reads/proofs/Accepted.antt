@@ -1,5 +1,6 @@
 -- The object of every accepted merge reads as an object: document 01's checks pass, but for its limits, and it has C's sections that stay and the tables that A's relocations
 -- need. Assumes nothing.
+use Rattle.std.specs.Prelude.{None}
 use Prim.Native.Nat.{ℕ, ◌+◌, ◌≤◌, ◌<◌}
 use mathlib.Core.Path.{◌≡◌, refl, sym, ap, ◌∙◌, subst}
 use mathlib.Core.Bool.{true, ◌&&◌}
@@ -9,8 +10,7 @@ use lib.ListN.{length, take}
 use lib.Dec.{eqb, leb}
 use Rattle.base_fields.specs.declared.ByteOrder.{ByteOrder}
 use Rattle.base_scope.specs.Text.{text}
-use Rattle.base_scope.specs.declared.Finding.TheVariants.{Clear}
-use Rattle.base_answers.specs.declared.Verdict.TheVariants.{Passed}
+use Rattle.base_answers.specs.Verdicts.{Passed}
 use Rattle.base_answers.proofs.Verdicts.{also_parts}
 use Rattle.elf_readers.specs.Readers.{order_of, section_count, header_place, is_strtab}
 use Rattle.elf_header.specs.FileHeader.{header_fault}
@@ -66,12 +66,12 @@ module _ (o : ByteOrder) (C A : List ℕ) (P : List Place) (B path : List ℕ) (
   abbrev O : List ℕ
   O = merged_object o C A P B path flag mode
 
-  module _ (clear : moved_finding p o ≡ Clear) (sound : Sound o C) where
+  module _ (clear : moved_finding p o ≡ None) (sound : Sound o C) where
     merged_order : order_of O ≡ order_of C
     unfolding merged_object
     merged_order = order_kept p o C clear sound.fields
 
-    merged_fields : header_fault o O ≡ Clear
+    merged_fields : header_fault o O ≡ None
     unfolding merged_object
     merged_fields = header_sound_lem p o C clear sound.fields
 
@@ -103,7 +103,7 @@ module _ (o : ByteOrder) (C A : List ℕ) (P : List Place) (B path : List ℕ) (
         )
 
     -- what the tests of a merge leave true is enough
-    merged_reads : order_of C ≡ o → Sound o A → Full path → clash_finding o C A flag ≡ Clear → Complete o C A P B → symbol_stages_verdict o C A P B mode (length (name_head mode path)) ≡ Passed
+    merged_reads : order_of C ≡ o → Sound o A → Full path → clash_finding o C A flag ≡ None → Complete o C A P B → symbol_stages_verdict o C A P B mode (length (name_head mode path)) ≡ Passed
         → ((k : ℕ) → k < symbol_count o O → (eqb mode MODE_FILENAME && leb (length (symbol_strings o C) + length (symbol_strings o A)) (symbol o O k).st_name) ≡ true
         → take (length path + 1) (symbol_name o O k) ≡ path ++ text ":")
         → Reads o C A P B path flag mode O

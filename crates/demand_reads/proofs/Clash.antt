@@ -1,4 +1,5 @@
 -- What refusal 10 leaves true of C by itself: its relocation tables are for sections that stay, and its symbols are in such sections or in none. Assumes nothing.
+use Rattle.std.specs.Prelude.{None}
 use Prim.Native.Nat.{ℕ, min, ◌≤◌, ◌<◌}
 use mathlib.Core.Path.{◌≡◌, refl, sym, ap, ◌∙◌}
 use mathlib.Core.Logic.{◌⊎◌, inl, inr, ⊎_elim}
@@ -12,7 +13,6 @@ use Rattle.base_lists.proofs.Ranges.{by-lt, both, and_true, or_parts, first_high
 use Rattle.base_fields.specs.declared.ByteOrder.{ByteOrder}
 use Rattle.base_scope.specs.Elf.{SHN_LORESERVE, SHN_XINDEX}
 use Rattle.base_scope.specs.Codes.{CODES}
-use Rattle.base_scope.specs.declared.Finding.TheVariants.{Clear}
 use Rattle.base_scope.proofs.Refusals.{found_clear}
 use Rattle.elf_readers.specs.Readers.{section_count, section, coded_section}
 use Rattle.elf_symbols.specs.Symbols.{symbol_count, symbol}
@@ -43,7 +43,7 @@ coded_stays o C flag c sound l u h = coded_kept o C flag c h (sound.types c l u 
 
 -- ---- refusal 10
 
-module _ (o : ByteOrder) (C A : List ℕ) (flag : ℕ) (unclashed : clash_finding o C A flag ≡ Clear) where
+module _ (o : ByteOrder) (C A : List ℕ) (flag : ℕ) (unclashed : clash_finding o C A flag ≡ None) where
   abbrev stay : ℕ
   stay = kept o C flag
 

@@ -1,4 +1,5 @@
 -- The entries of the result's symbols by where they come from: each that is taken has the index of a section that stays or a reserved one. Assumes nothing.
+use Rattle.std.specs.Prelude.{None}
 use Prim.Native.Nat.{ℕ, ◌+◌, ◌-◌, ◌≤◌, ◌<◌}
 use mathlib.Core.Path.{◌≡◌, refl, sym, ◌∙◌}
 use mathlib.Core.Logic.{◌⊎◌, inl, inr, ⊎_elim}
@@ -12,7 +13,6 @@ use Rattle.base_lists.proofs.Ranges.{by-test, by-lt, both, first_low_lem}
 use Rattle.base_fields.specs.declared.ByteOrder.{ByteOrder}
 use Rattle.base_scope.specs.Elf.{SHN_UNDEF, SHN_ABS}
 use Rattle.base_scope.specs.Codes.{TEXT, LATE_RODATA, target_code}
-use Rattle.base_scope.specs.declared.Finding.TheVariants.{Clear}
 use Rattle.elf_records.specs.declared.symbol.SymbolEntry.{SymbolEntry}
 use Rattle.elf_readers.specs.Readers.{coded_section}
 use Rattle.elf_readers.proofs.Readers.{code_there}
@@ -110,7 +110,7 @@ module _ (o : ByteOrder) (C A : List ℕ) (P : List Place) (B : List ℕ) (mode 
     entry_section k = refl
 
     -- each that is taken
-    pub entry_index : clash_finding o C A flag ≡ Clear → TakenPassed o C A P B → (head : ℕ) → StaticsSound o C head S
+    pub entry_index : clash_finding o C A flag ≡ None → TakenPassed o C A P B → (head : ℕ) → StaticsSound o C head S
         → (i : ℕ) → i < n + m + length S → by_origin o C A (is_taken_c o C) (is_taken_a o A) (λ k. true) i ≡ true → Index stay (entry_of o C A P B mode S i).st_shndx
     entry_index unclashed passed head w i h taken = rw (index_of i) (by-lt i n
         (λ l.

@@ -1,5 +1,6 @@
 -- The merged object's file header is C's but for the place and the number of section headers, so it passes document 01's test, and the object states C's byte order. Assumes
 -- nothing.
+use Rattle.std.specs.Prelude.{None}
 use Prim.Native.Nat.{ℕ}
 use mathlib.Core.Path.{◌≡◌, sym, ap, ◌∙◌}
 use mathlib.Core.Logic.{◌≢◌}
@@ -11,7 +12,6 @@ use lib.Seq.{get_or-take}
 use lib.Dec.{eqb}
 use borrow.Author.Tests.{ne_eqb}
 use Rattle.base_fields.specs.declared.ByteOrder.{ByteOrder}
-use Rattle.base_scope.specs.declared.Finding.TheVariants.{Clear}
 use Rattle.base_scope.proofs.Refusals.{expect_clear, expect_true}
 use Rattle.elf_records.specs.declared.header.ElfHeader.{ElfHeader}
 use Rattle.elf_records.proofs.Offsets.{elf_ident}
@@ -36,7 +36,7 @@ ident_order F G e =
 
 module _ (p : Plan) (h : ElfHeader) where
   -- the fields of a written header pass where those of the other did
-  front_fields : headings_at (layout_of p) ≢ 0 → field_fault h ≡ Clear → field_fault (written_front p h) ≡ Clear
+  front_fields : headings_at (layout_of p) ≢ 0 → field_fault h ≡ None → field_fault (written_front p h) ≡ None
   unfolding field_fault written_front
   front_fields some e =
       let a = expect_clear _ _ _ e in
@@ -67,7 +67,7 @@ module _ (p : Plan) (h : ElfHeader) where
         expect_true _ _ _ n.0,
       )
 
-module _ (p : Plan) (o : ByteOrder) (C : List ℕ) (clear : moved_finding p o ≡ Clear) where
+module _ (p : Plan) (o : ByteOrder) (C : List ℕ) (clear : moved_finding p o ≡ None) where
   abbrev O : List ℕ
   O = object_bytes p o (header o C)
 
@@ -76,7 +76,7 @@ module _ (p : Plan) (o : ByteOrder) (C : List ℕ) (clear : moved_finding p o �
   headings_some e = omega (arith, e, end_first (layout_of p), end_mono (layout_of p) 0 (layout_of p).many (omega arith), headings_low (layout_of p))
 
   -- refusal 2 does not hold
-  pub header_sound_lem : header_fault o C ≡ Clear → header_fault o O ≡ Clear
+  pub header_sound_lem : header_fault o C ≡ None → header_fault o O ≡ None
   header_sound_lem e =
       sym (header_whole o O (whole_back p o (header o C) (own_ident o C) clear))
       ∙ ap field_fault (header_back p o (header o C) (own_ident o C) clear)
@@ -89,7 +89,7 @@ module _ (p : Plan) (o : ByteOrder) (C : List ℕ) (clear : moved_finding p o �
       header_place_back p o (header o C) (own_ident o C) clear p.many
       ∙ sym (length_object p o clear (header o C) (own_ident o C))
 
-  ident_same : header_fault o C ≡ Clear → take 16 O ≡ take 16 C
+  ident_same : header_fault o C ≡ None → take 16 O ≡ take 16 C
   unfolding header written_front
   ident_same e =
       let a = elf_ident o O 0 (omega (arith, whole_back p o (header o C) (own_ident o C) clear)) in
@@ -97,5 +97,5 @@ module _ (p : Plan) (o : ByteOrder) (C : List ℕ) (clear : moved_finding p o �
       sym a ∙ ap (λ (x : ElfHeader). x.e_ident) (header_back p o (header o C) (own_ident o C) clear) ∙ b
 
   -- the byte order is C's
-  pub order_kept : header_fault o C ≡ Clear → order_of O ≡ order_of C
+  pub order_kept : header_fault o C ≡ None → order_of O ≡ order_of C
   order_kept e = ident_order O C (ident_same e)

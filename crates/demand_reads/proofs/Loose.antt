@@ -17,9 +17,8 @@ use Rattle.base_scope.specs.Text.{text}
 use Rattle.base_scope.specs.Elf.{SHN_UNDEF, STB_LOCAL}
 use Rattle.base_scope.specs.Refusals.{LOOSE_SYMBOL, found_below}
 use Rattle.base_scope.proofs.Refusals.{none_found}
-use Rattle.base_answers.specs.declared.Verdict.TheVariants.{Passed}
 use Rattle.base_answers.specs.Answers.{NONE}
-use Rattle.base_answers.specs.Verdicts.{finding_verdict}
+use Rattle.base_answers.specs.Verdicts.{Passed, finding_verdict}
 use Rattle.base_answers.proofs.Verdicts.{also_parts, finding_passed}
 use Rattle.elf_records.specs.declared.symbol.SymbolEntry.{SymbolEntry}
 use Rattle.elf_symbols.specs.Symbols.{symbol_count, symbol}

@@ -1,4 +1,5 @@
 -- The section names of the merged object: their table is C's, and each name has its end and is ASCII (refusal 4). Assumes nothing.
+use Rattle.std.specs.Prelude.{None}
 use Prim.Native.Nat.{ℕ, ◌+◌, ◌-◌, ◌≤◌, ◌<◌}
 use mathlib.Core.Path.{◌≡◌, refl, ap, ◌∙◌}
 use mathlib.Core.Bool.{Bool, true, false, not}
@@ -15,7 +16,6 @@ use Rattle.base_fields.specs.declared.ByteOrder.{ByteOrder}
 use Rattle.base_scope.specs.Text.{text}
 use Rattle.base_scope.specs.Codes.{LINES, section_codes, code_name}
 use Rattle.base_scope.specs.Elf.{SHT_STRTAB}
-use Rattle.base_scope.specs.declared.Finding.TheVariants.{Clear}
 use Rattle.base_scope.specs.Refusals.{found_below}
 use Rattle.base_scope.proofs.Refusals.{expect_true}
 use Rattle.elf_records.specs.declared.header.ElfHeader.{ElfHeader}
@@ -41,7 +41,7 @@ use Rattle.demand_symbols.proofs.of_write_plan.Headers.{merged_count_lem, merged
 use Rattle.demand_reads.proofs.Sections.{kept_type}
 
 -- a search in which no index is at fault finds none
-pub all_clear : (p : ℕ → Bool) (n : ℕ) → ((i : ℕ) → i < n → p i ≡ false) → found_below n (first p 0 n) ≡ Clear
+pub all_clear : (p : ℕ → Bool) (n : ℕ) → ((i : ℕ) → i < n → p i ≡ false) → found_below n (first p 0 n) ≡ None
 unfolding found_below
 all_clear p n f =
     let e : first p 0 n ≡ n = first_none p 0 n (omega arith) (λ i l h. f i h) in
@@ -101,7 +101,7 @@ module _ (o : ByteOrder) (C A : List ℕ) (P : List Place) (B path : List ℕ) (
   abbrev new : ℕ
   new = new_count o C A (kept o C flag)
 
-  module _ (clear : moved_finding p o ≡ Clear) (sound : Sound o C) where
+  module _ (clear : moved_finding p o ≡ None) (sound : Sound o C) where
     abbrev s : ℕ
     s = (header o C).e_shstrndx
 
@@ -180,7 +180,7 @@ module _ (o : ByteOrder) (C A : List ℕ) (P : List Place) (B path : List ℕ) (
         ap not (ap (name_sound o O) q ∙ fresh_sound (i - stay) (omega (arith, l, u))))
 
     -- refusal 4 does not hold
-    pub names_clear : name_fault o O ≡ Clear
+    pub names_clear : name_fault o O ≡ None
     unfolding name_fault
     names_clear =
         expect_true _ 0 _ (ap (is_strtab o O) names_index ∙ strtab_kept s sound.names)

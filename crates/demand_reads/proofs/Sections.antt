@@ -1,4 +1,5 @@
 -- The sections of the merged object: their bytes lie inside it, each has its name, and each of A's carried tables joins the first of its name. Assumes nothing.
+use Rattle.std.specs.Prelude.{None}
 use Prim.Native.Nat.{ℕ, ◌+◌, ◌-◌, ◌≤◌, ◌<◌}
 use mathlib.Core.Path.{◌≡◌, sym, ap, ◌∙◌}
 use mathlib.Core.Logic.{◌≢◌}
@@ -11,7 +12,6 @@ use Rattle.base_lists.proofs.Ranges.{by-test, by-lt, first_is, first_unique}
 use Rattle.base_lists.proofs.Strings.{same_eq, same_true}
 use Rattle.base_fields.specs.declared.ByteOrder.{ByteOrder}
 use Rattle.base_scope.specs.Elf.{SHT_NULL, SHT_NOBITS}
-use Rattle.base_scope.specs.declared.Finding.TheVariants.{Clear}
 use Rattle.elf_records.specs.declared.section.SectionHeader.{SectionHeader}
 use Rattle.elf_readers.specs.Readers.{header, section_count, section, section_name, has_name, section_named}
 use Rattle.elf_check.specs.Sound.{Sound}
@@ -58,7 +58,7 @@ module _ (o : ByteOrder) (C A : List ℕ) (P : List Place) (B path : List ℕ) (
   abbrev new : ℕ
   new = new_count o C A (kept o C flag)
 
-  module _ (clear : moved_finding p o ≡ Clear) where
+  module _ (clear : moved_finding p o ≡ None) where
     -- ---- types and places
 
     -- a section that stays has C's type

@@ -1,4 +1,5 @@
 -- The symbol table of the merged object: its entries are whole, each has a name with its end and the index of a section or a reserved one (refusal 5). Assumes nothing.
+use Rattle.std.specs.Prelude.{None}
 use Prim.Native.Nat.{ℕ, ◌*◌, ◌≤◌, ◌<◌}
 use mathlib.Core.Path.{◌≡◌, refl, sym, ap, ◌∙◌}
 use mathlib.Core.Bool.{true}
@@ -12,7 +13,6 @@ use Rattle.base_lists.proofs.Ranges.{by-lt, and_true, gather_all_length}
 use Rattle.base_lists.proofs.Strings.{has_end_append}
 use Rattle.base_fields.specs.declared.ByteOrder.{ByteOrder}
 use Rattle.base_scope.specs.Elf.{SHT_SYMTAB, SHT_NOBITS}
-use Rattle.base_scope.specs.declared.Finding.TheVariants.{Clear}
 use Rattle.elf_records.specs.declared.section.SectionHeader.{SectionHeader}
 use Rattle.elf_records.specs.declared.symbol.SymbolEntry.{SymbolEntry}
 use Rattle.elf_records.specs.Symbol.{symbol_bytes}
@@ -72,7 +72,7 @@ module _ (o : ByteOrder) (C A : List ℕ) (P : List Place) (B path : List ℕ) (
   abbrev entry : ℕ → SymbolEntry
   entry = result_entry o C A P B mode S
 
-  module _ (clear : moved_finding p o ≡ Clear) (sound : Sound o C) where
+  module _ (clear : moved_finding p o ≡ None) (sound : Sound o C) where
     -- ---- the table
 
     abbrev t : ℕ
@@ -157,7 +157,7 @@ module _ (o : ByteOrder) (C A : List ℕ) (P : List Place) (B path : List ℕ) (
           ap (λ (x : SymbolEntry). has_end R x.st_name) (entry_at o C A P B path flag mode k l)
           ∙ (named_all o C A P B mode path S sound soundA (statics_sound o C mode head) full (merged_at s k) (candidate_at o C A P B path flag mode k l h).0).ended
 
-      module _ (unclashed : clash_finding o C A flag ≡ Clear) (passed : TakenPassed o C A P B) where
+      module _ (unclashed : clash_finding o C A flag ≡ None) (passed : TakenPassed o C A P B) where
         section_index : (k : ℕ) → 1 ≤ k → k < merged_count s → index_sound (section_count o O) (symbol o O k).st_shndx ≡ true
         section_index k l h =
             let i : ℕ = merged_at s k in

@@ -1,5 +1,6 @@
 -- The relocation tables of the merged object are as document 01 has them (refusal 6): entries of their type's size, for a section that stays, and for the symbol table. Assumes
 -- nothing.
+use Rattle.std.specs.Prelude.{None}
 use Prim.Native.Nat.{ℕ, ◌+◌, ◌-◌, ◌<◌}
 use mathlib.Core.Path.{◌≡◌, sym, ap, ◌∙◌}
 use mathlib.Core.Logic.{◌≢◌, ⊎_elim}
@@ -11,7 +12,6 @@ use Rattle.base_lists.proofs.Ranges.{by-test, by-lt, and_true}
 use Rattle.base_fields.specs.declared.ByteOrder.{ByteOrder}
 use Rattle.base_scope.specs.Elf.{SHT_SYMTAB}
 use Rattle.base_scope.specs.Codes.{target_code}
-use Rattle.base_scope.specs.declared.Finding.TheVariants.{Clear}
 use Rattle.elf_records.specs.declared.section.SectionHeader.{SectionHeader}
 use Rattle.elf_readers.specs.Readers.{section_count, section, coded_section}
 use Rattle.elf_readers.proofs.Readers.{code_there}
@@ -61,7 +61,7 @@ module _ (o : ByteOrder) (C A : List ℕ) (P : List Place) (B path : List ℕ) (
   abbrev planned : ℕ → Type 0
   planned i = is_planned_table o C A P B path flag mode i ≡ true
 
-  module _ (clear : moved_finding (merged_plan o C A P B path flag mode) o ≡ Clear) (sound : Sound o C) (unclashed : clash_finding o C A flag ≡ Clear)
+  module _ (clear : moved_finding (merged_plan o C A P B path flag mode) o ≡ None) (sound : Sound o C) (unclashed : clash_finding o C A flag ≡ None)
       (complete : Complete o C A P B) where
     -- ---- the section that a table is for
 
@@ -109,6 +109,6 @@ module _ (o : ByteOrder) (C A : List ℕ) (P : List Place) (B path : List ℕ) (
         (λ f. sym (bad_none o O i (e ∙ f)))
 
     -- refusal 6 does not hold
-    pub tables_clear : relocation_fault o O ≡ Clear
+    pub tables_clear : relocation_fault o O ≡ None
     unfolding relocation_fault
     tables_clear = all_clear (bad_table o O) (section_count o O) none_bad

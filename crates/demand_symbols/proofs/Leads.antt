@@ -1,5 +1,6 @@
 -- Where a reference of C or A leads in an object O that a merge gave back: to the symbol that has its name, defined where everything that is taken over and defines that name
 -- says; without a name, to what it was. Assumes nothing.
+use Rattle.std.specs.Prelude.{None, Some, Option}
 use Prim.Native.Nat.{ℕ, ◌+◌, ◌≤◌, ◌<◌}
 use mathlib.Core.Path.{◌≡◌, refl, sym, ap, ◌∙◌, subst}
 use mathlib.Core.Bool.{true, false, not, ◌&&◌}
@@ -30,8 +31,7 @@ use Rattle.symbols_merge.specs.Listed.{listed, is_elsewhere, symbols_verdict}
 use Rattle.symbols_merge.specs.Merged.{held_by, number_of}
 use Rattle.symbols_merge.proofs.Merged.{Taken, held_taken, held_name, held_unnamed, held_defined, held_place, number_leads, number_in}
 use Rattle.symbols_ids.specs.Ids.{first_a, entry_of, candidates, merge_candidates}
-use Rattle.symbols_numbers.specs.declared.NewSymbol.{NewSymbol}
-use Rattle.symbols_numbers.specs.declared.NewSymbol.TheVariants.{Merged, Gone}
+use Rattle.base_packed.specs.declared.MergedSymbol.{MergedSymbol}
 use Rattle.symbols_numbers.specs.Result.{new_of}
 use Rattle.symbols_numbers.proofs.Result.{new_merged}
 use Rattle.merge_verdict.specs.of_symbols_stage.Verdict.{list_verdict, symbol_stages_verdict}
@@ -198,10 +198,10 @@ module _ (C A B path : List ℕ) (flag mode : ℕ) (O : List ℕ) (p : MergePass
   -- ---- a reference of C, or of A, whose symbol is in the result
 
   -- candidate i is symbol k of an object, and in the result
-  became : (from many k i : ℕ) → from + k ≡ i → (x : NewSymbol) → new_of s from many k ≡ x → is_in_result x ≡ true → (k < many) × (s.taken i ≡ true) × (new_number x ≡ number_of s i)
+  became : (from many k i : ℕ) → from + k ≡ i → (x : Option MergedSymbol) → new_of s from many k ≡ x → is_in_result x ≡ true → (k < many) × (s.taken i ≡ true) × (new_number x ≡ number_of s i)
   unfolding is_in_result new_number
-  became from many k i q (Merged x) e y = let b = new_merged s from many k x e in (b.own, ap s.taken (sym q) ∙ b.taken, b.number ∙ ap (number_of s) q)
-  became from many k i q Gone e y = both y refl
+  became from many k i q (Some x) e y = let b = new_merged s from many k x e in (b.own, ap s.taken (sym q) ∙ b.taken, b.number ∙ ap (number_of s) q)
+  became from many k i q None e y = both y refl
 
   leads_to_lem : (r : Reference) (i m : ℕ) → Taken s i → referred_definition o C A P B r ≡ definition_of s i → m ≡ number_of s i → Leads o C A P B path flag mode O r m
   leads_to_lem r i m t is e = subst (Leads o C A P B path flag mode O r) (sym e) (leads_id r i t is)

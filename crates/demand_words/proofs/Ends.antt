@@ -12,10 +12,9 @@ use Rattle.base_lists.specs.Ranges.{count}
 use Rattle.base_lists.proofs.Ranges.{by-test, by-lt, and_parts}
 use Rattle.base_fields.specs.declared.ByteOrder.{ByteOrder}
 use Rattle.base_scope.specs.Codes.{line_code}
-use Rattle.blocks_places.specs.declared.Placing.TheVariants.{Placed}
 use Rattle.blocks_places.specs.Lines.{line_count}
 use Rattle.blocks_places.specs.Places.{Place, is_placed, places_of, taken, place, end_at}
-use Rattle.blocks_places.specs.Faults.{placing}
+use Rattle.blocks_places.specs.Faults.{Placed, placing}
 use Rattle.blocks_places.proofs.Places.{length_places, taken_placed, place_value, taken_inside, end_same, end_moved}
 use Rattle.blocks_places.proofs.Walk.{placed_facts}
 use Rattle.blocks_spans.specs.Spans.{span_end, is_span, span_of, spans_of, span_at}

@@ -14,10 +14,9 @@ use Rattle.base_scope.specs.Codes.{BSS, LATE_RODATA, LATE_TARGET, section_codes,
 use Rattle.base_scope.proofs.Codes.{late_is, late_target_lem}
 use Rattle.elf_readers.specs.Readers.{coded_contents}
 use Rattle.blocks_file.specs.Blocks.{block_count}
-use Rattle.blocks_places.specs.declared.Placing.TheVariants.{Placed}
 use Rattle.blocks_places.specs.Lines.{line_count}
 use Rattle.blocks_places.specs.Places.{Place, places_of, end_at}
-use Rattle.blocks_places.specs.Faults.{placing}
+use Rattle.blocks_places.specs.Faults.{Placed, placing}
 use Rattle.blocks_items.specs.Items.{late_length}
 use Rattle.blocks_spans.specs.Spans.{spans_of, span_at, span_end}
 use Rattle.blocks_spans.specs.Copied.{copied}

@@ -1,5 +1,6 @@
 -- The sections of codes in the merged object: that of a code below BSS holds what block copying and the late step write, .bss holds no bytes.
 -- Assumes nothing.
+use Rattle.std.specs.Prelude.{None}
 use Prim.Native.Nat.{ℕ, ◌≤◌, ◌<◌}
 use mathlib.Core.Path.{◌≡◌, refl, sym, ap, ◌∙◌}
 use mathlib.Core.Logic.{◌≢◌}
@@ -12,7 +13,6 @@ use Rattle.base_lists.proofs.Ranges.{by-test, and_parts}
 use Rattle.base_fields.specs.declared.ByteOrder.{ByteOrder}
 use Rattle.base_scope.specs.Elf.{SHT_NULL, SHT_PROGBITS, SHT_SYMTAB, SHT_STRTAB, SHT_RELA, SHT_NOBITS, SHT_REL, SHT_MIPS_DEBUG}
 use Rattle.base_scope.specs.Codes.{BSS, REGINFO, CODES, section_codes, code_type}
-use Rattle.base_scope.specs.declared.Finding.TheVariants.{Clear}
 use Rattle.elf_readers.specs.Readers.{header, section, contents, coded_section, has_code, coded_contents, is_strtab}
 use Rattle.elf_readers.proofs.Readers.{code_there, codes_apart, contents_none}
 use Rattle.elf_symbols.specs.Symbols.{strtab}
@@ -35,7 +35,7 @@ bss_type : code_type BSS ≡ SHT_NOBITS
 unfolding code_type section_codes
 bss_type = refl
 
--- so A's.bss holds none
+-- so A's .bss holds none
 pub bss_empty : (o : ByteOrder) (F : List ℕ) → Sound o F → coded_contents o F BSS ≡ []
 unfolding coded_contents
 bss_empty o F sound = by-test (has_code o F BSS)
@@ -103,13 +103,13 @@ module _ (o : ByteOrder) (C A : List ℕ) (P : List Place) (B path : List ℕ) (
       typed t n q = other t n (sym (type_kept o C A P B path flag mode i (stays (omega (arith, front)))) ∙ q)
 
       -- the section of a code below .bss holds what the merge writes there
-      pub coded_merged : moved_finding (merged_plan o C A P B path flag mode) o ≡ Clear → contents o O i ≡ result_section o C A P B c
+      pub coded_merged : moved_finding (merged_plan o C A P B path flag mode) o ≡ None → contents o O i ≡ result_section o C A P B c
       coded_merged clear =
           merged_contents o C A P B path flag mode clear i (omega (arith, stays (omega (arith, front))))
           (typed SHT_NULL (omega arith)) (typed SHT_NOBITS (omega arith)) (typed SHT_MIPS_DEBUG (omega arith))
           ∙ coded_bytes
 
   -- .bss holds no bytes
-  pub bss_merged : has_code o C BSS ≡ true → moved_finding (merged_plan o C A P B path flag mode) o ≡ Clear → contents o O (coded_section o C BSS) ≡ []
+  pub bss_merged : has_code o C BSS ≡ true → moved_finding (merged_plan o C A P B path flag mode) o ≡ None → contents o O (coded_section o C BSS) ≡ []
   bss_merged there clear =
       nobits_merged o C A P B path flag mode clear (coded_section o C BSS) (stays BSS (omega arith) there (omega arith)) (coded_type BSS (omega arith) there (omega arith) ∙ bss_type)

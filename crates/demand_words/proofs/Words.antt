@@ -1,5 +1,6 @@
 -- Four bytes of a section of the merged object: C's where nothing is written over them, A's under one span, and A's late ones at their moved place. A table of C with entries is for
 -- one of its first four sections. Assumes nothing.
+use Rattle.std.specs.Prelude.{None}
 use Prim.Native.Nat.{ℕ, ◌+◌, ◌/◌, ◌≤◌, ◌<◌, min}
 use mathlib.Core.Path.{◌≡◌, sym, ap, ◌∙◌}
 use mathlib.Core.Logic.{⊎_elim}
@@ -15,7 +16,6 @@ use Rattle.base_lists.proofs.Ranges.{by-lt, and_parts, or_parts, first_high, non
 use Rattle.base_lists.proofs.Rows.{row_hit}
 use Rattle.base_fields.specs.declared.ByteOrder.{ByteOrder}
 use Rattle.base_scope.specs.Codes.{BSS, LATE_RODATA, LINES, LATE_TARGET}
-use Rattle.base_scope.specs.declared.Finding.TheVariants.{Clear}
 use Rattle.base_scope.proofs.Codes.{late_target_lem}
 use Rattle.base_scope.proofs.Refusals.{found_clear}
 use Rattle.elf_readers.specs.Readers.{section_count, section, contents, coded_section, has_code, coded_contents}
@@ -23,9 +23,8 @@ use Rattle.elf_relocations.specs.Relocations.{is_table, entry_size, relocation_c
 use Rattle.elf_relocations.proofs.Relocations.{size_cases}
 use Rattle.elf_check.specs.Sound.{Sound}
 use Rattle.blocks_file.specs.Blocks.{block_count}
-use Rattle.blocks_places.specs.declared.Placing.TheVariants.{Placed}
 use Rattle.blocks_places.specs.Places.{Place, places_of}
-use Rattle.blocks_places.specs.Faults.{placing}
+use Rattle.blocks_places.specs.Faults.{Placed, placing}
 use Rattle.blocks_spans.specs.Spans.{spans_of, span_at, span_end}
 use Rattle.blocks_spans.specs.Copied.{copied}
 use Rattle.late_length.specs.Late.{has_late_step}
@@ -49,7 +48,7 @@ use Rattle.demand_words.proofs.Finals.{front_holds, own_result, span_result, lat
 
 -- ---- refusal 10: a table of C with entries is for one of its first four sections
 
-pub none_stale : (o : ByteOrder) (C A : List ℕ) (flag : ℕ) → clash_finding o C A flag ≡ Clear → (t : ℕ) → t < section_count o C → is_stale o C t ≡ false
+pub none_stale : (o : ByteOrder) (C A : List ℕ) (flag : ℕ) → clash_finding o C A flag ≡ None → (t : ℕ) → t < section_count o C → is_stale o C t ≡ false
 unfolding clash_finding clash_at is_cut
 none_stale o C A flag clear t h =
     let stay : ℕ = kept o C flag in
@@ -73,7 +72,7 @@ entry_code o C t k f y h = ltb-false LINES (code_of o C (section o C t).sh_info)
 
 -- ---- words of sections
 
-module _ (o : ByteOrder) (C A B path : List ℕ) (flag mode : ℕ) (sound : Sound o C) (clear : moved_finding (merged_plan o C A (places_of o C B) B path flag mode) o ≡ Clear) where
+module _ (o : ByteOrder) (C A B path : List ℕ) (flag mode : ℕ) (sound : Sound o C) (clear : moved_finding (merged_plan o C A (places_of o C B) B path flag mode) o ≡ None) where
   abbrev P : List Place
   P = places_of o C B
 
@@ -123,7 +122,7 @@ module _ (o : ByteOrder) (C A B path : List ℕ) (flag mode : ℕ) (sound : Soun
         (agrees.complete.compiled_ends c holds r hit.0) (agrees.complete.assembled_ends c holds r hit.0)
         ∙ ap (λ (b : List ℕ). take 4 (drop x b)) (code_contents o A s (omega (arith, front)))
 
-    -- of A's.late_rodata: in one late word or jump table
+    -- of A's .late_rodata: in one late word or jump table
     pub late_word_lem : (s x : ℕ) → code_of o A s ≡ LATE_RODATA → has_late_step P B ≡ true → is_moved P B (late_start o A) x ≡ true
         → late_step_fault o P B (copied (spans_of P B LATE_TARGET) (coded_contents o C LATE_TARGET) (coded_contents o A LATE_TARGET)) ≡ block_count B
         → has_row (λ i k. leb (move_source P B (late_start o A) i k) x && leb (x + 4) (move_source P B (late_start o A) i k + item_length B i k)) (items P B) (block_count B) ≡ true

@@ -8,7 +8,7 @@ use lib.ListN.{length}
 use Rattle.base_scope.specs.Refusals.{LIMITS}
 use Rattle.base_scope.specs.Limits.{FILE_LIMIT, OPEN_TABLE, PLACE_TABLE, over_limits, Kept}
 use Rattle.base_scope.proofs.Limits.{in_limits}
-use Rattle.base_answers.specs.declared.Verdict.TheVariants.{Passed, Refused}
+use Rattle.base_answers.specs.Verdicts.{Passed, Refused}
 use Rattle.base_answers.specs.Answers.{refused, NONE, room_for}
 use Rattle.base_answers.proofs.Verdicts.{also_passed, also_refused, if_passed_lem, if_refused, limit_kept, limit_broken}
 use Rattle.elf_readers.specs.Readers.{order_of}
@@ -17,9 +17,7 @@ use Rattle.blocks_places.specs.Places.{Place, places_of}
 use Rattle.blocks_places.specs.Table.{places_in, Laid}
 use Rattle.draft_text.specs.Draft.{draft_text}
 use Rattle.open_inputs.specs.Open.{open_verdict}
-use Rattle.open_inputs.specs.declared.Opened.{Opened}
-use Rattle.open_inputs.specs.declared.Opened.TheVariants.{Blocks, Refused as Closed}
-use Rattle.open_inputs.specs.Opened.{opened_verdict}
+use Rattle.open_inputs.specs.Opened.{Blocks, Opened, opened_verdict}
 use Rattle.draft_call.specs.Verdict.{draft_bounds, draft_verdict}
 
 -- ---- limits
@@ -50,7 +48,7 @@ module _ (C prelude B : List ℕ) (room table places : ℕ) where
 
   -- within its limits the call is decided by its inputs, as they were opened
   module _ (kept : over_limits (draft_bounds (length C) (length prelude) (length B) table places) ≡ false) (r : Opened) (is : opened_verdict r ≡ open_verdict C B) where
-    pub verdict_refused : (n o p : ℕ) → r ≡ Closed n o p → refused n o p ≡ draft_verdict C prelude B room table places
+    pub verdict_refused : (n o p : ℕ) → r ≡ Refused n o p → refused n o p ≡ draft_verdict C prelude B room table places
     unfolding draft_verdict opened_verdict
     verdict_refused n o p e =
         let v : open_verdict C B ≡ Refused n o p = sym is ∙ ap opened_verdict e in

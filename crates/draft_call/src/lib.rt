@@ -14,8 +14,7 @@ ghost use Rattle.draft_text.specs.Draft.{draft_text};
 ghost use Rattle.draft_call.specs.Verdict.{draft_bounds, draft_verdict};
 ghost use Rattle.draft_call.specs.Drafted.{Drafted};
 
-use base_answers::Outcome;
-use open_inputs::Opened;
+use base_answers::{Outcome, Refusal};
 
 // Refusal 1, by the lengths of the inputs and of the working buffers.
 fn breaks_draft_bounds(
@@ -80,17 +79,25 @@ fn draft_answer(
         table.len(),
         places.len(),
     ) {
-        return base_answers::refusal(base_scope::LIMITS, base_answers::NONE, 0);
+        return base_answers::refused(Refusal {
+            number: base_scope::LIMITS,
+            object: base_answers::NONE,
+            place: 0,
+        });
     }
     match open_inputs::open(compiled, blocks, table, places) {
-        Opened::Blocks(count) => {
+        Ok(count) => {
             let n = append_text(out, prelude, blocks, table, places, count);
             if n <= out.len() as u64 {
                 return base_answers::result(n);
             }
-            base_answers::refusal(base_scope::OUTPUT_ROOM, base_answers::NONE, n)
+            base_answers::refused(Refusal {
+                number: base_scope::OUTPUT_ROOM,
+                object: base_answers::NONE,
+                place: n,
+            })
         }
-        Opened::Refused(number, object, place) => base_answers::refusal(number, object, place),
+        Err(refusal) => base_answers::refused(refusal),
     }
 }
 

@@ -29,10 +29,8 @@ pub fn append_nops(out: &mut [u8], at: u64, n: u64) -> u64
         return end;
     }
     let mut here = at;
-    let mut i: u64 = 0;
-    while i < n {
+    for _ in 0..n {
         here = append_nop(out, here);
-        i += 1;
     }
     here
 }

@@ -42,10 +42,8 @@ fn append_labels(out: &mut [u8], at: u64, file: &[u8], table: &[u8], suffix: &[u
     ensures { Written out.old at (labels_text file.now suffix.now i) result out.new × (result ≤ at + 8 * FILE_LIMIT) }
 {
     let mut next = at;
-    let mut k: usize = 0;
-    while k < base_scope::LINES {
+    for k in 0..base_scope::LINES {
         next = append_label_text(out, next, file, table, suffix, base_scope::LINES * i + k);
-        k += 1;
     }
     next
 }
@@ -154,13 +152,11 @@ fn append_lines(
 {
     let mut ends = [0u64; base_scope::LINE_INDICES];
     let mut next = at;
-    let mut j: usize = 0;
-    while j < base_scope::LINES * count {
+    for j in 0..base_scope::LINES * count {
         let c = base_scope::line_code(j) as usize;
         let end = ends[c];
         next = append_line_text(out, next, file, table, places, j, end);
         ends[c] = end_after(file, table, places, j, end);
-        j += 1;
     }
     next
 }
@@ -191,13 +187,9 @@ fn append_late_lines(
         × (result ≤ at + BLOCK_LIMIT * FILE_LIMIT) }
 {
     let mut next = at;
-    let mut i: usize = 0;
-    while i < count {
+    for i in 0..count {
         if blocks_places::is_live(file, table, places, i) {
             next = append_block_group(out, next, file, table, i, blocks_lines::KEY_LATE);
-            i += 1;
-        } else {
-            i += 1;
         }
     }
     next
@@ -208,12 +200,10 @@ fn is_late(file: &[u8], table: &[u8], places: &[u8], count: usize) -> bool
     requires { Laid (places_in places.now (line_count file.now)) file.now table.now places.now × (count ≡ block_count file.now) }
     ensures { result ≡ has_late (places_in places.now (line_count file.now)) file.now }
 {
-    let mut i: usize = 0;
-    while i < count {
+    for i in 0..count {
         if has_late(file, table, places, i) {
             return true;
         }
-        i += 1;
     }
     false
 }

@@ -1,4 +1,5 @@
 -- An accepted object is big-endian, since its header says so. Assumes nothing.
+use Rattle.std.specs.Prelude.{None}
 use mathlib.Core.Path.{◌≡◌, sym, ap, ◌∙◌}
 use mathlib.Core.List.{List}
 use Prim.Native.Nat.{ℕ, ◌<◌}
@@ -10,7 +11,6 @@ use Rattle.base_fields.specs.declared.ByteOrder.{ByteOrder}
 use Rattle.base_fields.specs.declared.ByteOrder.TheVariants.{Big}
 use Rattle.elf_records.specs.declared.header.ElfHeader.{ElfHeader}
 use Rattle.elf_records.proofs.Offsets.{elf_ident}
-use Rattle.base_scope.specs.declared.Finding.TheVariants.{Clear}
 use Rattle.base_scope.proofs.Refusals.{expect_clear}
 use Rattle.elf_readers.specs.Readers.{order_of, header, section_count, contents}
 use Rattle.elf_readers.specs.Bounds.{Headed}
@@ -18,13 +18,12 @@ use Rattle.elf_readers.proofs.Readers.{order_big}
 use Rattle.elf_header.specs.FileHeader.{field_fault}
 use Rattle.elf_header.proofs.FileHeader.{header_long, header_fields}
 use Rattle.elf_symbols.specs.Symbols.{symbol_strings, Table}
-use Rattle.elf_check.specs.declared.Checked.TheVariants.{Accepted}
-use Rattle.elf_check.specs.Object.{check_of}
+use Rattle.elf_check.specs.Object.{Accepted, check_of}
 use Rattle.elf_check.specs.Sound.{Sound}
 use Rattle.elf_check.proofs.Sound.{passed_of, accepted}
 
 -- the sixth test of the header: EI_DATA
-data_field : (h : ElfHeader) → field_fault h ≡ Clear → get_or h.e_ident 5 0 ≡ 2
+data_field : (h : ElfHeader) → field_fault h ≡ None → get_or h.e_ident 5 0 ≡ 2
 unfolding field_fault
 data_field h e =
     let a = expect_clear _ _ _ e in

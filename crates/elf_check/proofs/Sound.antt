@@ -1,5 +1,6 @@
 -- Everything that an accepted object is known to be: the answer `Accepted` leaves each of the six tests without a fault, and each of them says
 -- its part of `Sound`. Assumes nothing.
+use Rattle.std.specs.Prelude.{None, Some, Option}
 use mathlib.Core.Path.{◌≡◌, refl, sym}
 use mathlib.Core.Logic.{⊎_elim}
 use mathlib.Core.Bool.{true}
@@ -11,8 +12,6 @@ use native.Mathlib.Omega.{arith}
 use borrow.Author.Tests.{eqb-true, ne_eqb}
 use Rattle.base_fields.specs.declared.ByteOrder.{ByteOrder}
 use Rattle.elf_records.specs.declared.section.SectionHeader.{SectionHeader}
-use Rattle.base_scope.specs.declared.Finding.{Finding}
-use Rattle.base_scope.specs.declared.Finding.TheVariants.{Clear, At}
 use Rattle.elf_readers.specs.Readers.{order_of, section_count, section, coded_section}
 use Rattle.elf_header.specs.FileHeader.{header_fault}
 use Rattle.elf_sections.specs.Headers.{whole_entries, section_fault}
@@ -23,25 +22,23 @@ use Rattle.elf_symbol_faults.specs.Faults.{symbol_fault}
 use Rattle.elf_symbol_faults.proofs.Faults.{fault_sound, fault_tabled, fault_symbols, sound_table, sound_strtab, sound_end, sound_index, sound_zero, sound_unnamed}
 use Rattle.elf_relocations.specs.Relocations.{is_table, entry_size, relocation_count, relocation_fault}
 use Rattle.elf_relocations.proofs.Relocations.{fault_tables, sound_entsize, size_cases}
-use Rattle.elf_check.specs.declared.Checked.{Checked}
-use Rattle.elf_check.specs.declared.Checked.TheVariants.{Accepted}
-use Rattle.elf_check.specs.Object.{refuse, check_tables, check_names, check_in, check_of}
+use Rattle.elf_check.specs.Object.{Accepted, Checked, refuse, check_tables, check_names, check_in, check_of}
 use Rattle.elf_check.specs.Sound.{Sound}
 
 -- an accepted object has no fault in front, and is accepted by the rest
-pub refuse_accepted : (number : ℕ) (f : Finding) (rest : Checked) → refuse number f rest ≡ Accepted → (f ≡ Clear) × (rest ≡ Accepted)
+pub refuse_accepted : (number : ℕ) (f : Option ℕ) (rest : Checked) → refuse number f rest ≡ Accepted → (f ≡ None) × (rest ≡ Accepted)
 unfolding refuse
-refuse_accepted number Clear rest e = (refl, e)
-refuse_accepted number (At place) rest e = (cc, cc)
+refuse_accepted number None rest e = (refl, e)
+refuse_accepted number (Some place) rest e = (cc, cc)
 
 -- the six tests of an accepted object
 pub record Passed (o : ByteOrder) (F : List ℕ) : Type 0 where
-  pub header : header_fault o F ≡ Clear
-  pub sections : section_fault o F ≡ Clear
-  pub names : name_fault o F ≡ Clear
-  pub types : type_fault o F ≡ Clear
-  pub symbols : symbol_fault o F ≡ Clear
-  pub relocations : relocation_fault o F ≡ Clear
+  pub header : header_fault o F ≡ None
+  pub sections : section_fault o F ≡ None
+  pub names : name_fault o F ≡ None
+  pub types : type_fault o F ≡ None
+  pub symbols : symbol_fault o F ≡ None
+  pub relocations : relocation_fault o F ≡ None
 
 pub passed_of : (o : ByteOrder) (F : List ℕ) → check_in o F ≡ Accepted → Passed o F
 unfolding check_in check_names check_tables

@@ -1,8 +1,6 @@
 -- Document 01's check of one object: refusals 2, 3, 4, 3 by name, 5 and 6, in that order.
-use Rattle.std.specs.Prelude.{ℕ, List}
+use Rattle.std.specs.Prelude.{ℕ, List, Option, None, Some, Result, Ok, Err}
 use Rattle.base_fields.specs.declared.ByteOrder.{ByteOrder}
-use Rattle.base_scope.specs.declared.Finding.{Finding}
-use Rattle.base_scope.specs.declared.Finding.TheVariants.{Clear, At}
 use Rattle.base_scope.specs.Refusals.{FILE_HEADER, SECTION_HEADER, SECTION_NAME, SYMBOL_TABLE, RELOCATION_TABLE}
 use Rattle.elf_readers.specs.Readers.{order_of}
 use Rattle.elf_header.specs.FileHeader.{header_fault}
@@ -10,13 +8,22 @@ use Rattle.elf_sections.specs.Headers.{section_fault}
 use Rattle.elf_sections.specs.Names.{name_fault, type_fault}
 use Rattle.elf_symbol_faults.specs.Faults.{symbol_fault}
 use Rattle.elf_relocations.specs.Relocations.{relocation_fault}
-use Rattle.elf_check.specs.declared.Checked.{Checked}
-use Rattle.elf_check.specs.declared.Checked.TheVariants.{Accepted, Refused}
+use Rattle.elf_check.specs.declared.Fault.{Fault}
+
+-- what refuses an object: number and place
+abbrev pub Checked : Type 0
+Checked = Result (Unit {0}) Fault
+
+abbrev pub Accepted : Checked
+Accepted = Ok tt
+
+abbrev pub Refused : ℕ → ℕ → Checked
+Refused number place = Err (record { number = number; place = place })
 
 -- a fault is refused under its number; else the tests after it decide
-unfoldable pub refuse : ℕ → Finding → Checked → Checked
-refuse number Clear rest = rest
-refuse number (At place) rest = Refused number place
+unfoldable pub refuse : ℕ → Option ℕ → Checked → Checked
+refuse number None rest = rest
+refuse number (Some place) rest = Refused number place
 
 module _ (o : ByteOrder) (F : List ℕ) where
   -- symbols and relocation tables

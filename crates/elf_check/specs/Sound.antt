@@ -1,10 +1,9 @@
 -- What holds of every accepted object: the bounds and the forms that later steps read it by. proofs/Sound.antt derives it from the check.
-use Rattle.std.specs.Prelude.{ℕ, ◌+◌, ◌*◌, ◌≤◌, ◌<◌, ◌≡◌, Bool, true, false, List, []}
+use Rattle.std.specs.Prelude.{ℕ, ◌+◌, ◌*◌, ◌≤◌, ◌<◌, ◌≡◌, Bool, true, false, List, [], None}
 use Rattle.base_lists.specs.Strings.{has_end, ascii}
 use Rattle.base_fields.specs.declared.ByteOrder.{ByteOrder}
 use Rattle.base_fields.specs.declared.ByteOrder.TheVariants.{Big}
 use Rattle.base_scope.specs.Codes.{CODES, code_type}
-use Rattle.base_scope.specs.declared.Finding.TheVariants.{Clear}
 use Rattle.elf_readers.specs.Readers.{header, section_count, section, section_strings, section_name, coded_section, is_strtab}
 use Rattle.elf_readers.specs.Bounds.{Named}
 use Rattle.elf_header.specs.FileHeader.{header_fault}
@@ -15,7 +14,7 @@ use Rattle.elf_relocations.specs.Relocations.{is_table, relocation_table_sound, 
 
 pub record Sound (o : ByteOrder) (F : List ℕ) : Type 0 where
   -- the file header's fields are as document 01 has them, and e_shstrndx is a string table
-  pub fields : header_fault o F ≡ Clear
+  pub fields : header_fault o F ≡ None
   pub names : is_strtab o F (header o F).e_shstrndx ≡ true
   -- reading: every header, every section's bytes and every symbol lie inside the file
   pub named : Named o F

@@ -7,17 +7,16 @@ ghost use Rattle.elf_readers.specs.Bounds.{Headed, Named};
 ghost use Rattle.elf_symbols.specs.Symbols.{Tabled};
 ghost use Rattle.base_scope.specs.Codes.{CODES};
 ghost use Rattle.elf_check.specs.View.{coded_sections, view_of, section_in, has_in, Viewed};
-ghost use Rattle.elf_check.specs.Object.{check_tables, check_names, check_of};
+ghost use Rattle.elf_check.specs.Object.{Accepted, refuse, check_tables, check_names, check_of};
 
 use base_fields::ByteOrder;
-use base_scope::Finding;
 use elf_symbols::SymbolTable;
 
-// The answer of a check: accepted, or a refusal's number and place.
+// What refuses an object: a refusal's number and place.
 #[derive(Clone, Copy)]
-pub enum Checked {
-    Accepted,
-    Refused(u32, usize),
+pub struct Fault {
+    pub number: u32,
+    pub place: usize,
 }
 
 // The numbers of an accepted object: how many sections it has; the sections of their names, of its symbols and of their names; how many symbols its table says are
@@ -72,10 +71,8 @@ fn coded_sections(order: ByteOrder, file: &[u8]) -> [usize; base_scope::CODE_ENT
     ensures { result ≡ coded_sections order file.now }
 {
     let mut coded = [0usize; base_scope::CODE_ENTRIES];
-    let mut i: usize = 0;
-    while i < base_scope::CODE_ENTRIES {
+    for i in 0..base_scope::CODE_ENTRIES {
         coded[i] = elf_readers::coded_section(order, file, (i + 1) as u32);
-        i += 1;
     }
     coded
 }
@@ -100,50 +97,47 @@ pub fn view_of(order: ByteOrder, file: &[u8]) -> View
     }
 }
 
+// What a test found, under its number.
+fn refuse(number: u32, found: Option<usize>) -> Result<(), Fault>
+    ensures { result ≡ refuse number found Accepted }
+{
+    match found {
+        None => Ok(()),
+        Some(place) => Err(Fault { number, place }),
+    }
+}
+
 // Refusals 5 and 6, after the headers and names have passed.
-fn check_tables(order: ByteOrder, file: &[u8]) -> Checked
+fn check_tables(order: ByteOrder, file: &[u8]) -> Result<(), Fault>
     requires { Named order file.now }
     ensures { result ≡ check_tables order file.now }
 {
     let symbols = elf_symbol_faults::symbol_fault(order, file);
-    if let Finding::At(place) = symbols {
-        return Checked::Refused(base_scope::SYMBOL_TABLE, place);
-    }
+    refuse(base_scope::SYMBOL_TABLE, symbols)?;
     let relocations = elf_relocations::relocation_fault(order, file);
-    if let Finding::At(place) = relocations {
-        return Checked::Refused(base_scope::RELOCATION_TABLE, place);
-    }
-    Checked::Accepted
+    refuse(base_scope::RELOCATION_TABLE, relocations)
 }
 
 // Refusals 4 and 3 by name, then 5 and 6, after the headers have passed.
-fn check_names(order: ByteOrder, file: &[u8]) -> Checked
+fn check_names(order: ByteOrder, file: &[u8]) -> Result<(), Fault>
     requires { Headed order file.now }
     ensures { result ≡ check_names order file.now }
 {
     let named = elf_sections::name_fault(order, file);
-    if let Finding::At(place) = named {
-        return Checked::Refused(base_scope::SECTION_NAME, place);
-    }
+    refuse(base_scope::SECTION_NAME, named)?;
     let typed = elf_sections::type_fault(order, file);
-    if let Finding::At(place) = typed {
-        return Checked::Refused(base_scope::SECTION_HEADER, place);
-    }
+    refuse(base_scope::SECTION_HEADER, typed)?;
     check_tables(order, file)
 }
 
 // All of the check, in the byte order that the file states.
-pub fn check(file: &[u8]) -> Checked
+pub fn check(file: &[u8]) -> Result<(), Fault>
     ensures { result ≡ check_of file.now }
 {
     let order = elf_readers::order_of(file);
     let header = elf_header::header_fault(order, file);
-    if let Finding::At(place) = header {
-        return Checked::Refused(base_scope::FILE_HEADER, place);
-    }
+    refuse(base_scope::FILE_HEADER, header)?;
     let sections = elf_sections::section_fault(order, file);
-    if let Finding::At(place) = sections {
-        return Checked::Refused(base_scope::SECTION_HEADER, place);
-    }
+    refuse(base_scope::SECTION_HEADER, sections)?;
     check_names(order, file)
 }

@@ -5,15 +5,14 @@ ghost use Rattle.std.specs.Prelude.{◌≡◌};
 ghost use Rattle.elf_header.specs.FileHeader.{field_fault, header_fault};
 
 use base_fields::ByteOrder;
-use base_scope::Finding;
 use elf_records::ElfHeader;
 
 // The offset of the first of the twelve fields that has another value than document 01 asks.
-fn field_fault(h: ElfHeader) -> Finding
+fn field_fault(h: ElfHeader) -> Option<usize>
     ensures { result ≡ field_fault h }
 {
     let ident = h.e_ident;
-    let r = Finding::Clear;
+    let r = None;
     let r = base_scope::expected(h.e_shstrndx != 0, 50, r);
     let r = base_scope::expected(h.e_shentsize == 40, 46, r);
     let r = base_scope::expected(h.e_shoff != 0, 32, r);
@@ -29,11 +28,11 @@ fn field_fault(h: ElfHeader) -> Finding
 }
 
 // Refusal 2.
-pub fn header_fault(order: ByteOrder, file: &[u8]) -> Finding
+pub fn header_fault(order: ByteOrder, file: &[u8]) -> Option<usize>
     ensures { result ≡ header_fault order file.now }
 {
     if file.len() < ElfHeader::SIZE {
-        return Finding::At(file.len());
+        return Some(file.len());
     }
     field_fault(ElfHeader::new(order, file, 0))
 }

@@ -40,10 +40,8 @@ pub fn index_symbols(order: ByteOrder, file: &[u8], symbols: SymbolTable, index:
     let strings = elf_symbols::strings_of(file, symbols);
     let at = symbols.at;
     let n = symbols.count;
-    let mut k: usize = 0;
-    while k < n {
+    for k in 0..n {
         put_name(order, file, at, strings, k, index);
-        k += 1;
     }
     base_index::build(index, base_scope::SYMBOL_LIMIT, n);
 }

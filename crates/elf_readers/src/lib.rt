@@ -142,12 +142,10 @@ pub fn section_named(order: ByteOrder, file: &[u8], name: &[u8]) -> usize
     let at = header_place(order, file, 0);
     let strings = section_strings(order, file);
     let n = section_count(order, file);
-    let mut i: usize = 0;
-    while i < n {
+    for i in 0..n {
         if has_name(order, file, at, strings, name, i) {
             return i;
         }
-        i += 1;
     }
     n
 }

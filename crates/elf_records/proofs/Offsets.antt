@@ -1,5 +1,6 @@
 -- Where each field of a record is read: the widths in front of it in the layout, added up. Every law holds by computing the layout; the field
 -- at the record's own offset has `o + 0` there. Assumes nothing.
+use Rattle.std.specs.Prelude.{None, Some}
 use mathlib.Core.Path.{◌≡◌, refl, sym, ap, ◌∙◌}
 use mathlib.Core.Bool.{Bool, true, false}
 use mathlib.Core.List.{List}
@@ -10,7 +11,6 @@ use Rattle.base_fields.specs.declared.ByteOrder.{ByteOrder}
 use Rattle.base_fields.specs.Numbers.{number}
 use Rattle.base_fields.specs.Layouts.{fields_from}
 use Rattle.base_fields.proofs.Layouts.{fields_bytes, words_at, length_words}
-use Rattle.elf_records.specs.declared.relocation.Addend.TheVariants.{Absent, Present}
 use Rattle.elf_records.specs.Section.{section_layout, section_from, section_at}
 use Rattle.elf_records.specs.Symbol.{symbol_layout, symbol_from, symbol_at}
 use Rattle.elf_records.specs.Relocation.{relocation_layout, addend_of, relocation_from, relocation_at}
@@ -95,25 +95,25 @@ module _ (order : ByteOrder) (l : List ℕ) (o : ℕ) where
   relocation_info_lem true = refl
   relocation_info_lem false = refl
 
-  pub relocation_addend : (relocation_at order true l o).r_addend ≡ Present (number order 4 l (o + 8))
+  pub relocation_addend : (relocation_at order true l o).r_addend ≡ Some (number order 4 l (o + 8))
   unfolding relocation_at relocation_from relocation_layout addend_of fields_from
   relocation_addend = refl
 
-  pub relocation_none : (relocation_at order false l o).r_addend ≡ Absent
+  pub relocation_none : (relocation_at order false l o).r_addend ≡ None
   unfolding relocation_at relocation_from addend_of
   relocation_none = refl
 
   -- an entry made of what is read
   pub rela_made : (rela : Bool) (x y z : ℕ) → rela ≡ true → x ≡ number order 4 l o → y ≡ number order 4 l (o + 4) → z ≡ number order 4 l (o + 8)
-      → record { r_offset = x; r_info = y; r_addend = Present z } ≡ relocation_at order rela l o
+      → record { r_offset = x; r_info = y; r_addend = Some z } ≡ relocation_at order rela l o
   rela_made rela x y z e p q r = rw e (λ i. record {
     r_offset = (p ∙ sym (relocation_offset true)) i;
     r_info = (q ∙ sym (relocation_info_lem true)) i;
-    r_addend = (ap Present r ∙ sym relocation_addend) i;
+    r_addend = (ap Some r ∙ sym relocation_addend) i;
   })
 
   pub rel_made : (rela : Bool) (x y : ℕ) → rela ≡ false → x ≡ number order 4 l o → y ≡ number order 4 l (o + 4)
-      → record { r_offset = x; r_info = y; r_addend = Absent } ≡ relocation_at order rela l o
+      → record { r_offset = x; r_info = y; r_addend = None } ≡ relocation_at order rela l o
   rel_made rela x y e p q = rw e (λ i. record {
     r_offset = (p ∙ sym (relocation_offset false)) i;
     r_info = (q ∙ sym (relocation_info_lem false)) i;

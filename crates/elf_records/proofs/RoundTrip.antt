@@ -1,5 +1,6 @@
 -- Each record is read back as it was written: its layout has no empty field, so the law of any layout applies, and a record is made of its
 -- fields. Assumes nothing.
+use Rattle.std.specs.Prelude.{Option, None, Some}
 use mathlib.Core.Path.{◌≡◌, refl, ap, ◌∙◌}
 use mathlib.Core.Bool.{Bool, true, false}
 use mathlib.Core.List.{List, [], ◌∷◌, ◌++◌}
@@ -12,8 +13,6 @@ use Rattle.base_fields.specs.Layouts.{width_of}
 use Rattle.base_fields.proofs.Layouts.{positive, within_fields, fields_same, length_record}
 use Rattle.elf_records.specs.declared.section.SectionHeader.{SectionHeader}
 use Rattle.elf_records.specs.declared.symbol.SymbolEntry.{SymbolEntry}
-use Rattle.elf_records.specs.declared.relocation.Addend.{Addend}
-use Rattle.elf_records.specs.declared.relocation.Addend.TheVariants.{Absent, Present}
 use Rattle.elf_records.specs.declared.relocation.RelocationEntry.{RelocationEntry}
 use Rattle.elf_records.specs.declared.header.ElfHeader.{ElfHeader}
 use Rattle.elf_records.specs.declared.debug.Hdrr.{Hdrr}
@@ -112,20 +111,20 @@ unfolding elf_bytes elf_at elf_layout
 within_elf order h l o e v = ap elf_from (within_fields order elf_layout (elf_fields h) l o refl (elf_fields_lem h e) v) ∙ elf_of h e
 
 -- relocation entries, with an addend and with none
-count : (x y : ℕ) (a : Addend) → length (x ∷ y ∷ addend_fields a) ≡ length (relocation_layout (present a))
+count : (x y : ℕ) (a : Option ℕ) → length (x ∷ y ∷ addend_fields a) ≡ length (relocation_layout (present a))
 unfolding addend_fields relocation_layout present
-count x y (Present b) = refl
-count x y Absent = refl
+count x y (Some b) = refl
+count x y None = refl
 
 full : (b : Bool) → positive (relocation_layout b) ≡ true
 unfolding relocation_layout
 full true = refl
 full false = refl
 
-made : (x y : ℕ) (a : Addend) → relocation_from (present a) (x ∷ y ∷ addend_fields a) ≡ record { r_offset = x; r_info = y; r_addend = a }
+made : (x y : ℕ) (a : Option ℕ) → relocation_from (present a) (x ∷ y ∷ addend_fields a) ≡ record { r_offset = x; r_info = y; r_addend = a }
 unfolding relocation_from addend_of addend_fields present
-made x y (Present b) = refl
-made x y Absent = refl
+made x y (Some b) = refl
+made x y None = refl
 
 relocation_fields_lem : (r : RelocationEntry) → length (relocation_fields r) ≡ length (relocation_layout (has_addend r))
 unfolding relocation_fields has_addend

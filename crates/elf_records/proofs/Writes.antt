@@ -1,5 +1,6 @@
 -- A record written part by part, each part right behind those before it, is the record's bytes written at once: `record_then` of fields, once
 -- for each part. Assumes nothing.
+use Rattle.std.specs.Prelude.{None, Some}
 use mathlib.Core.Path.{◌≡◌, refl, sym, ap, ◌∙◌}
 use mathlib.Core.Bool.{Bool, true, false}
 use mathlib.Core.List.{List, [], ◌∷◌, ◌++◌, append_assoc}
@@ -16,7 +17,6 @@ use Rattle.base_fields.proofs.Numbers.{length_encoded, encoded_byte}
 use Rattle.base_fields.proofs.Layouts.{record_one, record_then, field_then, record_words, record_bytes_lem}
 use Rattle.elf_records.specs.declared.section.SectionHeader.{SectionHeader}
 use Rattle.elf_records.specs.declared.symbol.SymbolEntry.{SymbolEntry}
-use Rattle.elf_records.specs.declared.relocation.Addend.TheVariants.{Absent, Present}
 use Rattle.elf_records.specs.declared.relocation.RelocationEntry.{RelocationEntry}
 use Rattle.elf_records.specs.Relocation.{relocation_layout, addend_fields, relocation_fields, present, has_addend, relocation_bytes}
 use Rattle.elf_records.specs.declared.header.ElfHeader.{ElfHeader}
@@ -60,17 +60,17 @@ symbol_written order s l o a b c d e f h p q r t u v =
     field_then order l o (4 ∷ 4 ∷ 4 ∷ 1 ∷ 1 ∷ []) (n ∷ w ∷ z ∷ i ∷ g ∷ []) 2 s.st_shndx e f (o + 14) refl refl (omega arith) e' v
 
 -- the two or three fields of a relocation entry
-bytes_rela : (order : ByteOrder) (r : RelocationEntry) (v : ℕ) → r.r_addend ≡ Present v
+bytes_rela : (order : ByteOrder) (r : RelocationEntry) (v : ℕ) → r.r_addend ≡ Some v
     → record_bytes order (4 ∷ 4 ∷ 4 ∷ []) (r.r_offset ∷ r.r_info ∷ v ∷ []) ≡ relocation_bytes order r
 unfolding relocation_bytes relocation_fields relocation_layout addend_fields has_addend present
 bytes_rela order r v e = rw e
 
-bytes_rel : (order : ByteOrder) (r : RelocationEntry) → r.r_addend ≡ Absent
+bytes_rel : (order : ByteOrder) (r : RelocationEntry) → r.r_addend ≡ None
     → record_bytes order (4 ∷ 4 ∷ []) (r.r_offset ∷ r.r_info ∷ []) ≡ relocation_bytes order r
 unfolding relocation_bytes relocation_fields relocation_layout addend_fields has_addend present
 bytes_rel order r e = rw e
 
-pub rela_written : (order : ByteOrder) (r : RelocationEntry) (v : ℕ) (l : List ℕ) (o : ℕ) (a b c : List ℕ) → r.r_addend ≡ Present v → o + 12 ≤ length l
+pub rela_written : (order : ByteOrder) (r : RelocationEntry) (v : ℕ) (l : List ℕ) (o : ℕ) (a b c : List ℕ) → r.r_addend ≡ Some v → o + 12 ≤ length l
     → a ≡ spliced l o (encoded order 4 r.r_offset)
     → b ≡ spliced a (o + 4) (encoded order 4 r.r_info)
     → c ≡ spliced b (o + 8) (encoded order 4 v)
@@ -82,7 +82,7 @@ rela_written order r v l o a b c e h p q t =
     let b' = field_then order l o (4 ∷ []) (x ∷ []) 4 y a b (o + 4) refl refl (omega arith) (start order l o 4 x a p) q in
     field_then order l o (4 ∷ 4 ∷ []) (x ∷ y ∷ []) 4 v b c (o + 8) refl refl (omega arith) b' t ∙ ap (spliced l o) (bytes_rela order r v e)
 
-pub rel_written : (order : ByteOrder) (r : RelocationEntry) (l : List ℕ) (o : ℕ) (a b : List ℕ) → r.r_addend ≡ Absent → o + 8 ≤ length l
+pub rel_written : (order : ByteOrder) (r : RelocationEntry) (l : List ℕ) (o : ℕ) (a b : List ℕ) → r.r_addend ≡ None → o + 8 ≤ length l
     → a ≡ spliced l o (encoded order 4 r.r_offset)
     → b ≡ spliced a (o + 4) (encoded order 4 r.r_info)
     → b ≡ spliced l o (relocation_bytes order r)
@@ -101,11 +101,11 @@ pub room_rel : (b : Bool) (o n : ℕ) → b ≡ false → o + width_of (relocati
 unfolding width_of relocation_layout
 room_rel b o n e h = rw e at h
 
-pub has_addend_lem : (r : RelocationEntry) (v : ℕ) → r.r_addend ≡ Present v → has_addend r ≡ true
+pub has_addend_lem : (r : RelocationEntry) (v : ℕ) → r.r_addend ≡ Some v → has_addend r ≡ true
 unfolding has_addend present
 has_addend_lem r v e = rw e
 
-pub no_addend : (r : RelocationEntry) → r.r_addend ≡ Absent → has_addend r ≡ false
+pub no_addend : (r : RelocationEntry) → r.r_addend ≡ None → has_addend r ≡ false
 unfolding has_addend present
 no_addend r e = rw e
 

@@ -1,9 +1,7 @@
 -- Elf32_Rel and Elf32_Rela (gABI, "Relocation"): 8 bytes, or 12 with an addend.
-use Rattle.std.specs.Prelude.{ℕ, Bool, true, false, List, [], ◌∷◌, get_or}
+use Rattle.std.specs.Prelude.{ℕ, Bool, true, false, List, [], ◌∷◌, get_or, Option, None, Some}
 use Rattle.base_fields.specs.declared.ByteOrder.{ByteOrder}
 use Rattle.base_fields.specs.Layouts.{fields_at, record_bytes}
-use Rattle.elf_records.specs.declared.relocation.Addend.{Addend}
-use Rattle.elf_records.specs.declared.relocation.Addend.TheVariants.{Absent, Present}
 use Rattle.elf_records.specs.declared.relocation.RelocationEntry.{RelocationEntry}
 
 -- of a table with addends (RELA), or with none (REL)
@@ -11,24 +9,24 @@ unfoldable pub relocation_layout : Bool → List ℕ
 relocation_layout true = 4 ∷ 4 ∷ 4 ∷ []
 relocation_layout false = 4 ∷ 4 ∷ []
 
-unfoldable pub addend_of : Bool → List ℕ → Addend
-addend_of true v = Present (get_or v 2 0)
-addend_of false v = Absent
+unfoldable pub addend_of : Bool → List ℕ → Option ℕ
+addend_of true v = Some (get_or v 2 0)
+addend_of false v = None
 
 unfoldable pub relocation_from : Bool → List ℕ → RelocationEntry
 relocation_from rela v = record { r_offset = get_or v 0 0; r_info = get_or v 1 0; r_addend = addend_of rela v }
 
-unfoldable pub addend_fields : Addend → List ℕ
-addend_fields (Present a) = a ∷ []
-addend_fields Absent = []
+unfoldable pub addend_fields : Option ℕ → List ℕ
+addend_fields (Some a) = a ∷ []
+addend_fields None = []
 
 unfoldable pub relocation_fields : RelocationEntry → List ℕ
 relocation_fields r = r.r_offset ∷ r.r_info ∷ addend_fields r.r_addend
 
 -- whether an entry has an addend
-unfoldable pub present : Addend → Bool
-present (Present a) = true
-present Absent = false
+unfoldable pub present : Option ℕ → Bool
+present (Some a) = true
+present None = false
 
 unfoldable pub has_addend : RelocationEntry → Bool
 has_addend r = present r.r_addend

@@ -24,10 +24,8 @@ impl Hdrr {
         let magic = base_fields::read16(order, s, at);
         let vstamp = base_fields::read16(order, s, at + 2);
         let mut words = [0u32; 23];
-        let mut i: usize = 0;
-        while i < 23 {
+        for i in 0..23 {
             words[i] = base_fields::read32(order, s, at + 4 + 4 * i);
-            i += 1;
         }
         Hdrr {
             magic,

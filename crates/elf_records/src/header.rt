@@ -29,10 +29,8 @@ fn identification(s: &[u8], at: usize) -> [u8; 16]
     ensures { result ≡ take 16 (drop at s.now) }
 {
     let mut ident = [0u8; 16];
-    let mut i: usize = 0;
-    while i < 16 {
+    for i in 0..16 {
         ident[i] = s[at + i];
-        i += 1;
     }
     ident
 }

@@ -10,6 +10,6 @@ mod symbol;
 
 pub use debug::Hdrr;
 pub use header::ElfHeader;
-pub use relocation::{Addend, RelocationEntry};
+pub use relocation::RelocationEntry;
 pub use section::SectionHeader;
 pub use symbol::SymbolEntry;

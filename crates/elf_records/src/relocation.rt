@@ -7,16 +7,10 @@ ghost use Rattle.elf_records.specs.Relocation.{relocation_layout, relocation_at,
 use base_fields::ByteOrder;
 
 #[derive(Clone, Copy)]
-pub enum Addend {
-    Absent,
-    Present(u32),
-}
-
-#[derive(Clone, Copy)]
 pub struct RelocationEntry {
     pub r_offset: u32,
     pub r_info: u32,
-    pub r_addend: Addend,
+    pub r_addend: Option<u32>,
 }
 
 impl RelocationEntry {
@@ -29,13 +23,13 @@ impl RelocationEntry {
             return RelocationEntry {
                 r_offset: base_fields::read32(order, s, at),
                 r_info: base_fields::read32(order, s, at + 4),
-                r_addend: Addend::Present(base_fields::read32(order, s, at + 8)),
+                r_addend: Some(base_fields::read32(order, s, at + 8)),
             };
         }
         RelocationEntry {
             r_offset: base_fields::read32(order, s, at),
             r_info: base_fields::read32(order, s, at + 4),
-            r_addend: Addend::Absent,
+            r_addend: None,
         }
     }
 
@@ -46,12 +40,12 @@ impl RelocationEntry {
     {
         let addend = self.r_addend;
         match addend {
-            Addend::Present(value) => {
+            Some(value) => {
                 base_fields::write32(order, s, at, self.r_offset);
                 base_fields::write32(order, s, at + 4, self.r_info);
                 base_fields::write32(order, s, at + 8, value);
             }
-            Addend::Absent => {
+            None => {
                 base_fields::write32(order, s, at, self.r_offset);
                 base_fields::write32(order, s, at + 4, self.r_info);
             }

@@ -1,5 +1,6 @@
 -- Laws of the relocation tables: each test of refusal 6 from what the code has in hand, where an entry lies, and what the tables of an object that
 -- is not refused have. A table is a REL or a RELA, so it is no NOBITS and its bytes lie in the file. Assumes nothing.
+use Rattle.std.specs.Prelude.{None, Some}
 use mathlib.Core.Path.{◌≡◌, sym, ◌∙◌}
 use mathlib.Core.Bool.{Bool, true, false, not, ◌&&◌}
 use mathlib.Core.Logic.{◌⊎◌, inl, inr}
@@ -16,7 +17,6 @@ use Rattle.base_fields.specs.Layouts.{width_of}
 use Rattle.elf_records.specs.declared.section.SectionHeader.{SectionHeader}
 use Rattle.elf_records.specs.Relocation.{relocation_layout, relocation_at}
 use Rattle.elf_records.proofs.RoundTrip.{rela_width, rel_width}
-use Rattle.base_scope.specs.declared.Finding.TheVariants.{Clear, At}
 use Rattle.base_scope.specs.Elf.{SHT_REL, SHT_RELA, SHT_NOBITS}
 use Rattle.base_scope.specs.Refusals.{found_below}
 use Rattle.base_scope.proofs.Refusals.{none_found}
@@ -115,11 +115,11 @@ module _ (o : ByteOrder) (F : List ℕ) where
   unfolding bad_table
   bad_none i t = rw t
 
-  pub fault_at_lem : (n i : ℕ) → n ≡ section_count o F → i < n → first (bad_table o F) 0 n ≡ i → At i ≡ relocation_fault o F
+  pub fault_at_lem : (n i : ℕ) → n ≡ section_count o F → i < n → first (bad_table o F) 0 n ≡ i → Some i ≡ relocation_fault o F
   unfolding relocation_fault found_below
   fault_at_lem n i e l f = rw (← e, f, lt-ltb _ _ l)
 
-  pub fault_none : (n : ℕ) → n ≡ section_count o F → first (bad_table o F) 0 n ≡ n → Clear ≡ relocation_fault o F
+  pub fault_none : (n : ℕ) → n ≡ section_count o F → first (bad_table o F) 0 n ≡ n → None ≡ relocation_fault o F
   unfolding relocation_fault found_below
   fault_none n e f = rw (← e, f, le-ltb n n (omega arith))
 
@@ -129,7 +129,7 @@ module _ (o : ByteOrder) (F : List ℕ) where
   table_found s from n k e f = rw e at (sym f)
 
   -- every table of an object that is not refused is sound
-  pub fault_tables : relocation_fault o F ≡ Clear → (t : ℕ) → t < section_count o F → is_table o F t ≡ true → relocation_table_sound o F t ≡ true
+  pub fault_tables : relocation_fault o F ≡ None → (t : ℕ) → t < section_count o F → is_table o F t ≡ true → relocation_table_sound o F t ≡ true
   unfolding relocation_fault bad_table
   fault_tables e t l is =
       let b : (is_table o F t && not (relocation_table_sound o F t)) ≡ false = none_found (bad_table o F) (section_count o F) e t l in

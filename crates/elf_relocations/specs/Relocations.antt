@@ -1,11 +1,10 @@
 -- The relocation tables of an object (gABI, "Relocation"), and refusal 6: the lowest table with entries of another size, no existing section, or a link that is not the symbol table.
-use Rattle.std.specs.Prelude.{ℕ, ◌+◌, ◌*◌, ◌/◌, ◌≤◌, ◌<◌, Bool, true, false, cond, not, ◌&&◌, ◌||◌, List, ◌≡◌, length, eqb, ltb}
+use Rattle.std.specs.Prelude.{ℕ, ◌+◌, ◌*◌, ◌/◌, ◌≤◌, ◌<◌, Bool, true, false, cond, not, ◌&&◌, ◌||◌, List, ◌≡◌, length, eqb, ltb, Option}
 use Rattle.base_lists.specs.Ranges.{first}
 use Rattle.base_fields.specs.declared.ByteOrder.{ByteOrder}
 use Rattle.base_fields.specs.Layouts.{width_of}
 use Rattle.elf_records.specs.declared.relocation.RelocationEntry.{RelocationEntry}
 use Rattle.elf_records.specs.Relocation.{relocation_at, relocation_layout}
-use Rattle.base_scope.specs.declared.Finding.{Finding}
 use Rattle.base_scope.specs.Refusals.{found_below}
 use Rattle.base_scope.specs.Elf.{SHT_REL, SHT_RELA}
 use Rattle.elf_readers.specs.Readers.{section_count, section}
@@ -32,7 +31,7 @@ module _ (o : ByteOrder) (F : List ℕ) where
   unfoldable pub bad_table : ℕ → Bool
   bad_table i = is_table i && not (relocation_table_sound i)
 
-  unfoldable pub relocation_fault : Finding
+  unfoldable pub relocation_fault : Option ℕ
   relocation_fault = found_below (section_count o F) (first bad_table 0 (section_count o F))
 
   -- table i relocates section s

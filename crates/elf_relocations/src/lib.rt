@@ -11,7 +11,6 @@ ghost use Rattle.elf_symbols.specs.Symbols.{symtab};
 ghost use Rattle.elf_relocations.specs.Relocations.{is_rela, is_table, entry_size, relocation_table_sound, bad_table, relocation_fault, relocates, table_from, relocation_count};
 
 use base_fields::ByteOrder;
-use base_scope::Finding;
 
 // Whether section i has relocations with addends.
 pub fn is_rela(order: ByteOrder, file: &[u8], i: usize) -> bool
@@ -72,20 +71,18 @@ fn is_bad_table(order: ByteOrder, file: &[u8], symbols: usize, i: usize) -> bool
 }
 
 // Refusal 6.
-pub fn relocation_fault(order: ByteOrder, file: &[u8]) -> Finding
+pub fn relocation_fault(order: ByteOrder, file: &[u8]) -> Option<usize>
     requires { Headed order file.now }
     ensures { result ≡ relocation_fault order file.now }
 {
     let symbols = elf_symbols::symtab_index(order, file);
     let n = elf_readers::section_count(order, file);
-    let mut i: usize = 0;
-    while i < n {
+    for i in 0..n {
         if is_bad_table(order, file, symbols, i) {
-            return Finding::At(i);
+            return Some(i);
         }
-        i += 1;
     }
-    Finding::Clear
+    None
 }
 
 // Whether section i is a relocation table for section s.
@@ -106,12 +103,10 @@ pub fn table_from(order: ByteOrder, file: &[u8], s: usize, from: usize) -> usize
     ensures { result ≡ table_from order file.now s from }
 {
     let n = elf_readers::section_count(order, file);
-    let mut i = from;
-    while i < n {
+    for i in from..n {
         if is_table_for(order, file, s, i) {
             return i;
         }
-        i += 1;
     }
     n
 }

@@ -1,5 +1,6 @@
 -- What refusals 2, 3 and 4 leave true of an object that they do not refuse: every section and every name is sound, and the bounds that reading it
 -- relies on. Each search that found no fault ended at its bound, so no index below it is at fault. Assumes nothing.
+use Rattle.std.specs.Prelude.{None}
 use mathlib.Core.Path.{◌≡◌}
 use mathlib.Core.Bool.{true, false, not, ◌&&◌}
 use mathlib.Core.Logic.{◌≢◌}
@@ -13,7 +14,6 @@ use Rattle.base_lists.specs.Ranges.{least}
 use Rattle.base_lists.specs.Strings.{has_end, ascii}
 use Rattle.base_lists.proofs.Ranges.{by-test, and_parts, least_below}
 use Rattle.base_fields.specs.declared.ByteOrder.{ByteOrder}
-use Rattle.base_scope.specs.declared.Finding.TheVariants.{Clear}
 use Rattle.base_scope.specs.Limits.{SECTION_LIMIT}
 use Rattle.base_scope.specs.Elf.{SHT_NOBITS}
 use Rattle.base_scope.specs.Codes.{code_type, CODES}
@@ -29,14 +29,14 @@ use Rattle.elf_header.proofs.FileHeader.{header_long}
 module _ (o : ByteOrder) (F : List ℕ) where
   -- ---- sections
 
-  pub counted : section_fault o F ≡ Clear → (1 ≤ section_count o F) × (section_count o F ≤ SECTION_LIMIT)
+  pub counted : section_fault o F ≡ None → (1 ≤ section_count o F) × (section_count o F ≤ SECTION_LIMIT)
   unfolding section_fault count_sound
   counted e =
       let t = (expect_clear _ 0 _ e).0 in
       let r = and_parts (leb 1 (section_count o F)) (leb (section_count o F) SECTION_LIMIT) t in
       (leb-true _ _ r.0, leb-true _ _ r.1)
 
-  pub sections_sound : section_fault o F ≡ Clear → (i : ℕ) → i < section_count o F → section_sound o F i ≡ true
+  pub sections_sound : section_fault o F ≡ None → (i : ℕ) → i < section_count o F → section_sound o F i ≡ true
   unfolding section_fault bad_section
   sections_sound e i l = sound_of i (none_found (bad_section o F) (section_count o F) (expect_clear _ 0 _ e).1 i l)
     where
@@ -78,7 +78,7 @@ module _ (o : ByteOrder) (F : List ℕ) where
         let b = (and_parts (bytes_inside (length F) (section o F i)) (leb (section o F i).sh_addralign 65536) after_entries).0 in
         leb-true _ _ (rw (ne_eqb _ _ n) at b)
 
-  pub headed_of : header_fault o F ≡ Clear → section_fault o F ≡ Clear → Headed o F
+  pub headed_of : header_fault o F ≡ None → section_fault o F ≡ None → Headed o F
   headed_of h s = record {
     whole = header_long o F h;
     few = (counted s).1;
@@ -88,15 +88,15 @@ module _ (o : ByteOrder) (F : List ℕ) where
 
   -- ---- names
 
-  pub named_of : Headed o F → name_fault o F ≡ Clear → Named o F
+  pub named_of : Headed o F → name_fault o F ≡ None → Named o F
   unfolding name_fault
   named_of h e = record { headed = h; strings = strtab_lt o F (header o F).e_shstrndx (expect_clear _ 0 _ e).0 }
 
-  pub names_strings : name_fault o F ≡ Clear → is_strtab o F (header o F).e_shstrndx ≡ true
+  pub names_strings : name_fault o F ≡ None → is_strtab o F (header o F).e_shstrndx ≡ true
   unfolding name_fault
   names_strings e = (expect_clear _ 0 _ e).0
 
-  pub names_sound : name_fault o F ≡ Clear → (i : ℕ) → i < section_count o F → (has_end (section_strings o F) (section o F i).sh_name ≡ true) × (ascii (section_name o F i) ≡ true)
+  pub names_sound : name_fault o F ≡ None → (i : ℕ) → i < section_count o F → (has_end (section_strings o F) (section o F i).sh_name ≡ true) × (ascii (section_name o F i) ≡ true)
   unfolding name_fault bad_name name_sound
   names_sound e i l = parts i (none_found (bad_name o F) (section_count o F) (expect_clear _ 0 _ e).1 i l)
     where
@@ -106,7 +106,7 @@ module _ (o : ByteOrder) (F : List ℕ) where
   -- ---- types
 
   -- no section of a code is mistyped
-  pub none_mistyped : type_fault o F ≡ Clear → (i : ℕ) → i < CODES → mistyped o F i ≡ false
+  pub none_mistyped : type_fault o F ≡ None → (i : ℕ) → i < CODES → mistyped o F i ≡ false
   unfolding type_fault mistyped coded_after
   none_mistyped e i l = by-test (mistyped o F i)
       (λ t.
@@ -120,7 +120,7 @@ module _ (o : ByteOrder) (F : List ℕ) where
       present i t = ltb-true (coded_section o F (i + 1)) (section_count o F) (and_parts (ltb (coded_section o F (i + 1)) (section_count o F)) _ t).0
 
   -- the section of a code has the type that document 01 asks
-  pub types_sound : type_fault o F ≡ Clear → (i : ℕ) → i < CODES → coded_section o F (i + 1) < section_count o F → (section o F (coded_section o F (i + 1))).sh_type ≡ code_type (i + 1)
+  pub types_sound : type_fault o F ≡ None → (i : ℕ) → i < CODES → coded_section o F (i + 1) < section_count o F → (section o F (coded_section o F (i + 1))).sh_type ≡ code_type (i + 1)
   unfolding mistyped
   types_sound e i l u =
       let m : (ltb (coded_section o F (i + 1)) (section_count o F) && not (eqb (section o F (coded_section o F (i + 1))).sh_type (code_type (i + 1)))) ≡ false = none_mistyped e i l in

@@ -1,4 +1,5 @@
 -- Laws of refusal 3's first part. Assumes nothing.
+use Rattle.std.specs.Prelude.{Some}
 use mathlib.Core.Path.{◌≡◌, sym}
 use mathlib.Core.Bool.{true, false, not, ◌&&◌}
 use mathlib.Core.List.{List}
@@ -12,7 +13,6 @@ use Rattle.base_scope.specs.Elf.{SHT_NULL, SHT_NOBITS}
 use Rattle.elf_readers.specs.Readers.{section_count, header_place, section}
 use Rattle.elf_sections.specs.Headers.{null_section_sound, whole_entries, bytes_inside, header_sound, section_sound, bad_section, count_sound, section_fault}
 use Rattle.base_lists.specs.Ranges.{first}
-use Rattle.base_scope.specs.declared.Finding.TheVariants.{At}
 use Rattle.base_scope.specs.Limits.{SECTION_LIMIT}
 use Rattle.base_scope.specs.Refusals.{found_below}
 use Rattle.base_scope.proofs.Refusals.{expect_true, expect_false}
@@ -65,6 +65,6 @@ module _ (o : ByteOrder) (F : List ℕ) (n : ℕ) (is : n ≡ section_count o F)
   unfolding section_fault count_sound
   fault_counted k t e = rw (e, ← is) (sym (expect_true _ 0 _ t))
 
-  pub fault_uncounted : (leb 1 n && leb n SECTION_LIMIT) ≡ false → At 0 ≡ section_fault o F
+  pub fault_uncounted : (leb 1 n && leb n SECTION_LIMIT) ≡ false → Some 0 ≡ section_fault o F
   unfolding section_fault count_sound
   fault_uncounted t = rw (← is) (sym (expect_false _ 0 _ t))

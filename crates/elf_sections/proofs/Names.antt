@@ -1,4 +1,5 @@
 -- Laws of refusal 4 and of the types that go by name. Assumes nothing.
+use Rattle.std.specs.Prelude.{Some}
 use mathlib.Core.Path.{◌≡◌, sym}
 use mathlib.Core.Bool.{true, false, cond, not}
 use mathlib.Core.List.{List}
@@ -14,7 +15,6 @@ use Rattle.base_scope.specs.Codes.{code_type}
 use Rattle.elf_readers.specs.Readers.{header, section_count, section, is_strtab, section_strings, coded_section}
 use Rattle.elf_readers.proofs.Readers.{name_placed, strtab_lt}
 use Rattle.elf_sections.specs.Names.{name_sound, bad_name, name_fault, mistyped, coded_after, Naming}
-use Rattle.base_scope.specs.declared.Finding.TheVariants.{At}
 use Rattle.base_scope.specs.Refusals.{found_below}
 use Rattle.base_scope.proofs.Refusals.{expect_true, expect_false}
 
@@ -65,7 +65,7 @@ module _ (o : ByteOrder) (F : List ℕ) (s : ℕ) (at : s ≡ (header o F).e_shs
   unfolding name_fault
   fault_named n k t is e = rw (e, is, ← at) (sym (expect_true _ 0 _ t))
 
-  pub fault_unnamed : is_strtab o F s ≡ false → At 0 ≡ name_fault o F
+  pub fault_unnamed : is_strtab o F s ≡ false → Some 0 ≡ name_fault o F
   unfolding name_fault
   fault_unnamed t = rw (← at) (sym (expect_false _ 0 _ t))
 

@@ -1,9 +1,8 @@
 -- Refusal 3, its first part (document 01, "Sections: 1 to 128 .."): the lowest section whose header breaks one of its clauses; 0 for the count.
-use Rattle.std.specs.Prelude.{ℕ, ◌+◌, ◌/◌, ◌%◌, Bool, true, false, cond, not, ◌&&◌, List, length, eqb, ltb, leb}
+use Rattle.std.specs.Prelude.{ℕ, ◌+◌, ◌/◌, ◌%◌, Bool, true, false, cond, not, ◌&&◌, List, length, eqb, ltb, leb, Option}
 use Rattle.base_lists.specs.Ranges.{first}
 use Rattle.base_fields.specs.declared.ByteOrder.{ByteOrder}
 use Rattle.elf_records.specs.declared.section.SectionHeader.{SectionHeader}
-use Rattle.base_scope.specs.declared.Finding.{Finding}
 use Rattle.base_scope.specs.Refusals.{expect, found_below}
 use Rattle.base_scope.specs.Limits.{SECTION_LIMIT, ALIGN_LIMIT}
 use Rattle.base_scope.specs.Elf.{SHT_NULL, SHT_NOBITS, SHF_LINK_ORDER}
@@ -39,5 +38,5 @@ module _ (o : ByteOrder) (F : List ℕ) where
   unfoldable pub count_sound : Bool
   count_sound = leb 1 (section_count o F) && leb (section_count o F) SECTION_LIMIT
 
-  unfoldable pub section_fault : Finding
+  unfoldable pub section_fault : Option ℕ
   section_fault = expect count_sound 0 (found_below (section_count o F) (first bad_section 0 (section_count o F)))

@@ -1,10 +1,9 @@
 -- Refusal 4 (document 01's table): e_shstrndx names no string table, or a section's name has no zero end or a byte over 127; and refusal 3's
--- second part, tested after it: the first.text, .data, .rodata, .late_rodata, .bss or .reginfo of another type.
-use Rattle.std.specs.Prelude.{ℕ, ◌+◌, Bool, not, ◌&&◌, List, ◌≡◌, length, eqb, ltb}
+-- second part, tested after it: the first .text, .data, .rodata, .late_rodata, .bss or .reginfo of another type.
+use Rattle.std.specs.Prelude.{ℕ, ◌+◌, Bool, not, ◌&&◌, List, ◌≡◌, length, eqb, ltb, Option}
 use Rattle.base_lists.specs.Ranges.{first, least, past_last}
 use Rattle.base_lists.specs.Strings.{has_end, zero_at, ascii}
 use Rattle.base_fields.specs.declared.ByteOrder.{ByteOrder}
-use Rattle.base_scope.specs.declared.Finding.{Finding}
 use Rattle.base_scope.specs.Refusals.{expect, found_below}
 use Rattle.base_scope.specs.Codes.{CODES, code_type}
 use Rattle.elf_readers.specs.Bounds.{Headed}
@@ -17,7 +16,7 @@ module _ (o : ByteOrder) (F : List ℕ) where
   unfoldable pub bad_name : ℕ → Bool
   bad_name i = not (name_sound i)
 
-  unfoldable pub name_fault : Finding
+  unfoldable pub name_fault : Option ℕ
   name_fault = expect (is_strtab o F (header o F).e_shstrndx) 0 (found_below (section_count o F) (first bad_name 0 (section_count o F)))
 
   -- the section of code i + 1 is there, and of another type than document 01 asks
@@ -28,7 +27,7 @@ module _ (o : ByteOrder) (F : List ℕ) where
   coded_after i = coded_section o F (i + 1)
 
   -- the lowest such section
-  unfoldable pub type_fault : Finding
+  unfoldable pub type_fault : Option ℕ
   type_fault = found_below (section_count o F) (least coded_after mistyped (section_count o F) CODES)
 
 -- while names are checked: the names' table is in hand, and one past its last zero byte

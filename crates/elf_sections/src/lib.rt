@@ -11,7 +11,6 @@ ghost use Rattle.elf_sections.specs.Headers.{null_section_sound, whole_entries, 
 ghost use Rattle.elf_sections.specs.Names.{name_sound, bad_name, name_fault, mistyped, coded_after, type_fault, Naming};
 
 use base_fields::ByteOrder;
-use base_scope::Finding;
 use elf_records::SectionHeader;
 
 // Whether section i is of type 0 exactly where it is section 0, and that one has no size.
@@ -75,11 +74,8 @@ fn first_bad_section(order: ByteOrder, file: &[u8], n: usize) -> usize
     requires { (52 ≤ length file.now) × (n < 65536) }
     ensures { result ≡ first (bad_section order file.now) 0 n }
 {
-    let mut i: usize = 0;
-    while i < n {
-        if is_section_sound(order, file, i) {
-            i += 1;
-        } else {
+    for i in 0..n {
+        if !is_section_sound(order, file, i) {
             return i;
         }
     }
@@ -87,7 +83,7 @@ fn first_bad_section(order: ByteOrder, file: &[u8], n: usize) -> usize
 }
 
 // Refusal 3, its first part.
-pub fn section_fault(order: ByteOrder, file: &[u8]) -> Finding
+pub fn section_fault(order: ByteOrder, file: &[u8]) -> Option<usize>
     requires { 52 ≤ length file.now }
     ensures { result ≡ section_fault order file.now }
 {
@@ -96,7 +92,7 @@ pub fn section_fault(order: ByteOrder, file: &[u8]) -> Finding
         let bad = first_bad_section(order, file, n);
         return base_scope::found_below(n, bad);
     }
-    Finding::At(0)
+    Some(0)
 }
 
 // Whether section i's name has a zero end and no byte over 127. `headers` is where the headers start, `strings` the names' table, `ends` one past its last zero byte.
@@ -127,11 +123,8 @@ fn first_bad_name(order: ByteOrder, file: &[u8]) -> usize
     let strings = elf_readers::section_strings(order, file);
     let ends = base_names::past_last_zero(strings);
     let n = elf_readers::section_count(order, file);
-    let mut i: usize = 0;
-    while i < n {
-        if is_name_sound(order, file, headers, strings, ends, i) {
-            i += 1;
-        } else {
+    for i in 0..n {
+        if !is_name_sound(order, file, headers, strings, ends, i) {
             return i;
         }
     }
@@ -139,7 +132,7 @@ fn first_bad_name(order: ByteOrder, file: &[u8]) -> usize
 }
 
 // Refusal 4.
-pub fn name_fault(order: ByteOrder, file: &[u8]) -> Finding
+pub fn name_fault(order: ByteOrder, file: &[u8]) -> Option<usize>
     requires { Headed order file.now }
     ensures { result ≡ name_fault order file.now }
 {
@@ -149,7 +142,7 @@ pub fn name_fault(order: ByteOrder, file: &[u8]) -> Finding
         let bad = first_bad_name(order, file);
         return base_scope::found_below(n, bad);
     }
-    Finding::At(0)
+    Some(0)
 }
 
 // Whether section k is there and of another type than document 01 asks of code i + 1.
@@ -179,16 +172,14 @@ fn lower_mistyped(order: ByteOrder, file: &[u8], i: u32, lowest: usize) -> usize
 }
 
 // Refusal 3, its second part.
-pub fn type_fault(order: ByteOrder, file: &[u8]) -> Finding
+pub fn type_fault(order: ByteOrder, file: &[u8]) -> Option<usize>
     requires { Named order file.now }
     ensures { result ≡ type_fault order file.now }
 {
     let n = elf_readers::section_count(order, file);
     let mut lowest = n;
-    let mut i: u32 = 0;
-    while i < base_scope::CODES {
+    for i in 0..base_scope::CODES {
         lowest = lower_mistyped(order, file, i, lowest);
-        i += 1;
     }
     base_scope::found_below(n, lowest)
 }

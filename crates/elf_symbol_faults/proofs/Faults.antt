@@ -1,5 +1,6 @@
 -- Laws of refusal 5: each test of it, from what the code has in hand, and what an object that it does not refuse has: a symbol table inside the
 -- file whose symbols are all as they must be. A conjunction that holds has both its parts. Assumes nothing.
+use Rattle.std.specs.Prelude.{None, Some}
 use mathlib.Core.Logic.{◌⊎◌, inl, inr}
 use mathlib.Core.Path.{◌≡◌, refl, sym, ◌∙◌}
 use mathlib.Core.Bool.{Bool, true, false, not, ◌&&◌}
@@ -18,7 +19,6 @@ use Rattle.elf_records.specs.declared.section.SectionHeader.{SectionHeader}
 use Rattle.elf_records.specs.declared.symbol.SymbolEntry.{SymbolEntry}
 use Rattle.base_scope.specs.Elf.{SHN_LORESERVE, SHN_XINDEX}
 use Rattle.base_scope.specs.Limits.{SYMBOL_LIMIT}
-use Rattle.base_scope.specs.declared.Finding.TheVariants.{Clear, At}
 use Rattle.base_scope.specs.Refusals.{found_below}
 use Rattle.base_scope.proofs.Refusals.{expect_clear, expect_true, expect_false, none_found}
 use Rattle.elf_readers.specs.Readers.{section_count, section, is_strtab}
@@ -85,7 +85,7 @@ module _ (o : ByteOrder) (F : List ℕ) where
   pub bad_found : (n k : ℕ) → n ≡ symbol_count o F → first (bad_symbol o F) 0 n ≡ k → k ≡ first (bad_symbol o F) 0 (symbol_count o F)
   bad_found n k e f = rw e at (sym f)
 
-  pub fault_table : symbol_table_sound o F ≡ false → At 0 ≡ symbol_fault o F
+  pub fault_table : symbol_table_sound o F ≡ false → Some 0 ≡ symbol_fault o F
   unfolding symbol_fault
   fault_table e = sym (expect_false _ 0 _ e)
 
@@ -135,14 +135,14 @@ module _ (o : ByteOrder) (F : List ℕ) where
 
   -- ---- what an object that is not refused has
 
-  pub fault_sound : symbol_fault o F ≡ Clear → symbol_table_sound o F ≡ true
+  pub fault_sound : symbol_fault o F ≡ None → symbol_table_sound o F ≡ true
   unfolding symbol_fault
   fault_sound e = (expect_clear _ _ _ e).0
 
-  pub fault_tabled : Headed o F → symbol_fault o F ≡ Clear → Tabled o F
+  pub fault_tabled : Headed o F → symbol_fault o F ≡ None → Tabled o F
   fault_tabled s e = tabled_of s (fault_sound e)
 
-  pub fault_symbols : symbol_fault o F ≡ Clear → (k : ℕ) → k < symbol_count o F → symbol_sound o F k ≡ true
+  pub fault_symbols : symbol_fault o F ≡ None → (k : ℕ) → k < symbol_count o F → symbol_sound o F k ≡ true
   unfolding symbol_fault bad_symbol
   fault_symbols e k l = not-false _ (none_found (bad_symbol o F) (symbol_count o F) (expect_clear _ 0 _ e).1 k l)
 

@@ -1,10 +1,9 @@
 -- Refusal 5 (document 01, "Symbols"): the lowest symbol that breaks one of its clauses; 0 where the whole table does.
-use Rattle.std.specs.Prelude.{ℕ, Bool, true, false, cond, not, ◌&&◌, ◌||◌, List, ◌≡◌, length, eqb, ltb, leb}
+use Rattle.std.specs.Prelude.{ℕ, Bool, true, false, cond, not, ◌&&◌, ◌||◌, List, ◌≡◌, length, eqb, ltb, leb, Option}
 use Rattle.base_lists.specs.Ranges.{first, past_last}
 use Rattle.base_lists.specs.Strings.{has_end, zero_at}
 use Rattle.base_fields.specs.declared.ByteOrder.{ByteOrder}
 use Rattle.elf_records.specs.declared.symbol.SymbolEntry.{SymbolEntry}
-use Rattle.base_scope.specs.declared.Finding.{Finding}
 use Rattle.base_scope.specs.Refusals.{expect, found_below}
 use Rattle.base_scope.specs.Limits.{SYMBOL_LIMIT}
 use Rattle.base_scope.specs.Elf.{SHN_LORESERVE, SHN_XINDEX}
@@ -38,7 +37,7 @@ module _ (o : ByteOrder) (F : List ℕ) where
   unfoldable pub bad_symbol : ℕ → Bool
   bad_symbol k = not (symbol_sound k)
 
-  unfoldable pub symbol_fault : Finding
+  unfoldable pub symbol_fault : Option ℕ
   symbol_fault = expect symbol_table_sound 0 (found_below (symbol_count o F) (first bad_symbol 0 (symbol_count o F)))
 
 -- while symbols are checked: the entries in hand, one past the last zero byte of their strings, and the section count

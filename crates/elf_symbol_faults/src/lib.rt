@@ -8,7 +8,6 @@ ghost use Rattle.elf_symbols.specs.Symbols.{symbol_count, Table, Entries};
 ghost use Rattle.elf_symbol_faults.specs.Faults.{zero_entry, index_sound, symbol_table_sound, null_symbol_sound, symbol_sound, bad_symbol, symbol_fault, Checking};
 
 use base_fields::ByteOrder;
-use base_scope::Finding;
 use elf_records::SymbolEntry;
 use elf_symbols::SymbolTable;
 
@@ -95,11 +94,8 @@ fn first_bad_symbol(order: ByteOrder, file: &[u8], table: SymbolTable) -> usize
     let sections = elf_readers::section_count(order, file);
     let at = table.at;
     let n = table.count;
-    let mut k: usize = 0;
-    while k < n {
-        if is_symbol_sound(order, file, at, strings, ends, sections, k) {
-            k += 1;
-        } else {
+    for k in 0..n {
+        if !is_symbol_sound(order, file, at, strings, ends, sections, k) {
             return k;
         }
     }
@@ -107,7 +103,7 @@ fn first_bad_symbol(order: ByteOrder, file: &[u8], table: SymbolTable) -> usize
 }
 
 // Refusal 5.
-pub fn symbol_fault(order: ByteOrder, file: &[u8]) -> Finding
+pub fn symbol_fault(order: ByteOrder, file: &[u8]) -> Option<usize>
     requires { Headed order file.now }
     ensures { result ≡ symbol_fault order file.now }
 {
@@ -116,5 +112,5 @@ pub fn symbol_fault(order: ByteOrder, file: &[u8]) -> Finding
         let bad = first_bad_symbol(order, file, table);
         return base_scope::found_below(table.count, bad);
     }
-    Finding::At(0)
+    Some(0)
 }

@@ -24,12 +24,10 @@ pub fn symtab_index(order: ByteOrder, file: &[u8]) -> usize
 {
     let at = elf_readers::header_place(order, file, 0);
     let n = elf_readers::section_count(order, file);
-    let mut i: usize = 0;
-    while i < n {
+    for i in 0..n {
         if is_symtab(order, file, at, i) {
             return i;
         }
-        i += 1;
     }
     n
 }

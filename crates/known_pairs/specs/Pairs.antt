@@ -1,14 +1,13 @@
 -- Document 01, "Known pairs": those with a star, as one table over the definitions that the calls use.
-use Rattle.std.specs.Prelude.{ℕ, ◌+◌, true, ◌≡◌, List, [], ◌∷◌, map}
+use Rattle.std.specs.Prelude.{ℕ, ◌+◌, true, ◌≡◌, List, [], ◌∷◌, map, None}
 use Rattle.base_fields.specs.declared.ByteOrder.TheVariants.{Big}
 use Rattle.base_lists.specs.Ranges.{select}
 use Rattle.base_lists.specs.Records.{flat}
 use Rattle.base_fields.specs.Numbers.{encoded}
 use Rattle.base_scope.specs.Text.{text}
-use Rattle.base_scope.specs.declared.Finding.TheVariants.{Clear}
 use Rattle.base_scope.specs.Refusals.{BLOCK_ALIGNMENT, NAME_TWICE}
 use Rattle.base_packed.specs.Packed.{symbol_of, kind_of, relocation_info}
-use Rattle.base_answers.specs.declared.Verdict.TheVariants.{Passed, Refused}
+use Rattle.base_answers.specs.Verdicts.{Passed, Refused}
 use Rattle.base_answers.specs.Answers.{NONE, COMPILED}
 use Rattle.elf_samples.specs.Samples.{label_at}
 use Rattle.open_inputs.specs.Open.{open_verdict}
@@ -61,7 +60,7 @@ pub record KnownPairs : Type 0 where
   pub twelve_eight : open_verdict (label_at 12) align_eight ≡ Refused BLOCK_ALIGNMENT COMPILED 0
   pub sixteen_eight : open_verdict (label_at 16) align_eight ≡ Passed
   -- scope file, proc, static n twice: n:1, n:2. At level 1: n
-  pub statics_sound : statics_fault Big twice_in_proc MODE_LOCAL 0 ≡ Clear
+  pub statics_sound : statics_fault Big twice_in_proc MODE_LOCAL 0 ≡ None
   pub statics_counted : static_names twice_in_proc ≡ text "n:1" ∷ text "n:2" ∷ []
   pub static_plain : static_names once_in_file ≡ text "n" ∷ []
   -- C: empty, g defined, u undefined, l local defined: order empty, l, g, u; sh_info 2

@@ -1,5 +1,6 @@
 -- The laws of one block: what the answer for an item tells, the loop over its dummies, and that its dummies and its jump table together are its items. Assumes
 -- nothing.
+use Rattle.std.specs.Prelude.{None, Some, Option}
 use Prim.Native.Nat.{ℕ, zero, suc, ◌+◌, ◌*◌, ◌≤◌, ◌<◌}
 use mathlib.Core.Path.{◌≡◌, refl, sym, ap, ◌∙◌}
 use mathlib.Core.Bool.{Bool, true, false, cond, ◌&&◌, ◌||◌}
@@ -20,8 +21,6 @@ use Rattle.base_fields.specs.declared.ByteOrder.TheVariants.{Big}
 use Rattle.base_fields.specs.Numbers.{encoded}
 use Rattle.base_fields.proofs.Numbers.{length_encoded}
 use Rattle.late_moves.specs.of_blocks_items.Items.{dummy_count, dummy_word, jump_table}
-use Rattle.late_dummies.specs.declared.Spot.{Spot}
-use Rattle.late_dummies.specs.declared.Spot.TheVariants.{At, Lost}
 use Rattle.late_dummies.specs.Spots.{pick_spot, spot}
 use Rattle.late_moves.specs.Moves.{first_of_many, item_place, item_fault, last_from}
 use Rattle.late_moves.proofs.Moves.{length_dummy, length_table, place_dummy, place_table_lem, fault_dummy, fault_table, item_fits, last_from_zero, last_from_next}
@@ -29,26 +28,26 @@ use Rattle.late_blocks.specs.Items.{table_spot, place_from, fault_from, sound_it
 
 -- ---- what an answer tells
 
-at_inj : (a b : ℕ) → At a ≡ At b → a ≡ b
+at_inj : (a b : ℕ) → Some a ≡ Some b → a ≡ b
 at_inj a b e = cc
 
-at_lost : {A : Type 0} (x y : A) (a : ℕ) → At a ≡ Lost → x ≡ y
+at_lost : {A : Type 0} (x y : A) (a : ℕ) → Some a ≡ None → x ≡ y
 at_lost x y a e = cc
 
 -- a place is the place asked for, and nothing is at fault; no place, and something is
-pub spot_at : (b : Bool) (x p : ℕ) (r : Spot) → r ≡ pick_spot b Lost (At x) → r ≡ At p → (b ≡ false) × (p ≡ x)
+pub spot_at : (b : Bool) (x p : ℕ) (r : Option ℕ) → r ≡ pick_spot b None (Some x) → r ≡ Some p → (b ≡ false) × (p ≡ x)
 spot_at true x p r e q = (at_lost true false p (sym q ∙ e), at_lost p x p (sym q ∙ e))
 spot_at false x p r e q = (refl, at_inj p x (sym q ∙ e))
 
-pub spot_lost : (b : Bool) (x : ℕ) (r : Spot) → r ≡ pick_spot b Lost (At x) → r ≡ Lost → b ≡ true
+pub spot_lost : (b : Bool) (x : ℕ) (r : Option ℕ) → r ≡ pick_spot b None (Some x) → r ≡ None → b ≡ true
 spot_lost true x r e q = refl
 spot_lost false x r e q = at_lost false true x (sym e ∙ q)
 
 -- ---- a dummy
 
-pub item_spot : (o : ByteOrder) (B R : List ℕ) (i last k count w : ℕ) (many : Bool) (r : Spot) → count ≡ dummy_count B i → k < count
+pub item_spot : (o : ByteOrder) (B R : List ℕ) (i last k count w : ℕ) (many : Bool) (r : Option ℕ) → count ≡ dummy_count B i → k < count
     → many ≡ (eqb k 0 && ltb 1 count) → w ≡ dummy_word B i k → r ≡ spot o R many last w
-    → r ≡ pick_spot (item_fault o B R i last k) Lost (At (item_place o B R i last k))
+    → r ≡ pick_spot (item_fault o B R i last k) None (Some (item_place o B R i last k))
 unfolding spot first_of_many
 item_spot o B R i last k count w many r e h m q is =
     let l : k < dummy_count B i = omega arith in
@@ -57,19 +56,19 @@ item_spot o B R i last k count w many r e h m q is =
 -- ---- a jump table
 
 module _ (R : List ℕ) (count n last : ℕ) where
-  pub table_none : n ≡ 0 → At last ≡ table_spot R count n last
+  pub table_none : n ≡ 0 → Some last ≡ table_spot R count n last
   unfolding table_spot
   table_none e = let q : last + 0 ≡ last = omega arith in rw (e, q)
 
-  pub table_alone : (n ≡ 0 → ⊥) → count ≡ 0 → Lost ≡ table_spot R count n last
+  pub table_alone : (n ≡ 0 → ⊥) → count ≡ 0 → None ≡ table_spot R count n last
   unfolding table_spot
   table_alone d e = let h : 0 < n = omega arith in rw (lt-ltb _ _ h, e)
 
-  pub table_past : (n ≡ 0 → ⊥) → (count ≡ 0 → ⊥) → length R < last + n → Lost ≡ table_spot R count n last
+  pub table_past : (n ≡ 0 → ⊥) → (count ≡ 0 → ⊥) → length R < last + n → None ≡ table_spot R count n last
   unfolding table_spot
   table_past d f g = let h : 0 < n = omega arith in rw (lt-ltb _ _ h, ne_eqb _ _ f, lt-ltb _ _ g)
 
-  pub table_fits : (n ≡ 0 → ⊥) → (count ≡ 0 → ⊥) → last + n ≤ length R → At (last + n) ≡ table_spot R count n last
+  pub table_fits : (n ≡ 0 → ⊥) → (count ≡ 0 → ⊥) → last + n ≤ length R → Some (last + n) ≡ table_spot R count n last
   unfolding table_spot
   table_fits d f g = let h : 0 < n = omega arith in rw (lt-ltb _ _ h, ne_eqb _ _ f, le-ltb _ _ g)
 
@@ -92,11 +91,11 @@ module _ (o : ByteOrder) (B R : List ℕ) (i last : ℕ) where
   words_zero = rw (select_zero (λ j. true) (place_from o B R i last), flat_none)
 
   -- the answer for n items, where so many are sound
-  pub spot_stop : (n k : ℕ) → sound_items o B R i last n ≡ k → k < n → Lost ≡ items_spot o B R i last n
+  pub spot_stop : (n k : ℕ) → sound_items o B R i last n ≡ k → k < n → None ≡ items_spot o B R i last n
   unfolding items_spot
   spot_stop n k e h = rw (e, lt-ltb _ _ h)
 
-  pub spot_go : (n : ℕ) → sound_items o B R i last n ≡ n → At (last_from o B R i last n) ≡ items_spot o B R i last n
+  pub spot_go : (n : ℕ) → sound_items o B R i last n ≡ n → Some (last_from o B R i last n) ≡ items_spot o B R i last n
   unfolding items_spot
   spot_go n e = let h : ltb n n ≡ false = le-ltb n n (omega arith) in rw (e, h)
 
@@ -139,7 +138,7 @@ module _ (o : ByteOrder) (B R : List ℕ) (i last count : ℕ) (before : List �
   module _ (h : k < count) where
     -- dummy k is lost
     pub placing_lost : item_fault o B R i here k ≡ true
-        → (Lost ≡ items_spot o B R i last count) × (late ≡ spliced before at (place_words o B R i last count))
+        → (None ≡ items_spot o B R i last count) × (late ≡ spliced before at (place_words o B R i last count))
     placing_lost t =
         let e : sound_items o B R i last count ≡ k = w.sound ∙ first_here (fault_from o B R i last) k count h (fault_here ∙ t) in
         (spot_stop o B R i last count k e h, words_of e)
@@ -171,7 +170,7 @@ module _ (o : ByteOrder) (B R : List ℕ) (i last count : ℕ) (before : List �
           }
 
   -- all are placed
-  pub placing_end : count ≤ k → (At here ≡ items_spot o B R i last count) × (late ≡ spliced before at (place_words o B R i last count))
+  pub placing_end : count ≤ k → (Some here ≡ items_spot o B R i last count) × (late ≡ spliced before at (place_words o B R i last count))
   placing_end h =
       let q : k ≡ count = omega (arith, w.few) in
       let e : sound_items o B R i last count ≡ k = w.sound ∙ first_end (fault_from o B R i last) k count h in
@@ -185,13 +184,13 @@ module _ (o : ByteOrder) (B R : List ℕ) (i last : ℕ) where
   sound_high n = first_high (fault_from o B R i last) 0 n (omega arith)
 
   -- what the answer for n items tells
-  pub spot_sound : (n p : ℕ) (r : Spot) → r ≡ items_spot o B R i last n → r ≡ At p → (sound_items o B R i last n ≡ n) × (p ≡ last_from o B R i last n)
+  pub spot_sound : (n p : ℕ) (r : Option ℕ) → r ≡ items_spot o B R i last n → r ≡ Some p → (sound_items o B R i last n ≡ n) × (p ≡ last_from o B R i last n)
   unfolding items_spot
   spot_sound n p r e q =
       let t = spot_at (ltb (sound_items o B R i last n) n) (last_from o B R i last n) p r e q in
       (omega (arith, sound_high n, ltb-false (sound_items o B R i last n) n t.0), t.1)
 
-  pub spot_unsound : (n : ℕ) (r : Spot) → r ≡ items_spot o B R i last n → r ≡ Lost → sound_items o B R i last n < n
+  pub spot_unsound : (n : ℕ) (r : Option ℕ) → r ≡ items_spot o B R i last n → r ≡ None → sound_items o B R i last n < n
   unfolding items_spot
   spot_unsound n r e q = ltb-true (sound_items o B R i last n) n (spot_lost (ltb (sound_items o B R i last n) n) (last_from o B R i last n) r e q)
 
@@ -241,5 +240,5 @@ module _ (o : ByteOrder) (B R : List ℕ) (i last : ℕ) where
       (λ t. rw (t, ← m) (spot_go o B R i last (count + 1) (sound_last count false e (f ∙ t))))
 
   -- a block with a dummy that is lost
-  pub block_lost : (count : ℕ) → sound_items o B R i last count < count → Lost ≡ items_spot o B R i last (count + 1)
+  pub block_lost : (count : ℕ) → sound_items o B R i last count < count → None ≡ items_spot o B R i last (count + 1)
   block_lost count h = spot_stop o B R i last (count + 1) (sound_items o B R i last count) (sound_more count h) (omega arith)

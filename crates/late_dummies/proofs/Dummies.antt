@@ -1,5 +1,6 @@
 -- The laws of the search for a dummy: the turns of its loop, what a place in a part of .rodata is in the whole, what the search tells of the bytes, and the
 -- cases of a late word's place. Assumes nothing.
+use Rattle.std.specs.Prelude.{None, Some}
 use Prim.Native.Nat.{ℕ, ◌+◌, ◌-◌, ◌≤◌, ◌<◌}
 use mathlib.Core.Path.{◌≡◌, sym, ap, ◌∙◌}
 use mathlib.Core.Bool.{Bool, true, false, ◌&&◌}
@@ -16,7 +17,6 @@ use Rattle.base_fields.specs.declared.ByteOrder.{ByteOrder}
 use Rattle.base_fields.specs.Numbers.{number}
 use Rattle.base_fields.proofs.Numbers.{number_same}
 use Rattle.late_dummies.specs.Dummies.{word_at, found, shifts, placed, is_lost}
-use Rattle.late_dummies.specs.declared.Spot.TheVariants.{At, Lost}
 use Rattle.late_dummies.specs.Spots.{shift_spot, spot}
 
 module _ (o : ByteOrder) (R : List ℕ) where
@@ -158,7 +158,7 @@ module _ (o : ByteOrder) (R : List ℕ) (many : Bool) (last w : ℕ) where
       (λ n. n ∙ sym (rw (shift_no_told f n) (by-test many (λ t. rw t) (λ t. rw t))))
 
   -- the answers of the search
-  pub spot_lost : length R < found o R last w + 4 → Lost ≡ spot o R many last w
+  pub spot_lost : length R < found o R last w + 4 → None ≡ spot o R many last w
   unfolding spot is_lost
   spot_lost h = rw (lt-ltb _ _ h)
 
@@ -166,19 +166,19 @@ module _ (o : ByteOrder) (R : List ℕ) (many : Bool) (last w : ℕ) where
   unfolding spot shift_spot is_lost placed shifts
   spot_many h t = rw (le-ltb _ _ h, t)
 
-  pub spot_one : found o R last w + 4 ≤ length R → many ≡ false → At (found o R last w) ≡ spot o R many last w
+  pub spot_one : found o R last w + 4 ≤ length R → many ≡ false → Some (found o R last w) ≡ spot o R many last w
   unfolding spot is_lost placed shifts
   spot_one h f = rw (le-ltb _ _ h, f)
 
 module _ (o : ByteOrder) (R : List ℕ) (at : ℕ) where
-  pub shift_lost : length R < at + 8 → Lost ≡ shift_spot o R at
+  pub shift_lost : length R < at + 8 → None ≡ shift_spot o R at
   unfolding shift_spot
   shift_lost h = rw (lt-ltb _ _ h)
 
-  pub shift_yes : at + 8 ≤ length R → word_at o R 0 (at + 4) ≡ true → At (at + 4) ≡ shift_spot o R at
+  pub shift_yes : at + 8 ≤ length R → word_at o R 0 (at + 4) ≡ true → Some (at + 4) ≡ shift_spot o R at
   unfolding shift_spot
   shift_yes h t = rw (le-ltb _ _ h, t)
 
-  pub shift_no : at + 8 ≤ length R → word_at o R 0 (at + 4) ≡ false → At at ≡ shift_spot o R at
+  pub shift_no : at + 8 ≤ length R → word_at o R 0 (at + 4) ≡ false → Some at ≡ shift_spot o R at
   unfolding shift_spot
   shift_no h f = rw (le-ltb _ _ h, f)

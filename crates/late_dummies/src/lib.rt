@@ -8,13 +8,6 @@ ghost use Rattle.late_dummies.specs.Spots.{shift_spot, spot};
 
 use base_fields::ByteOrder;
 
-// A place in .rodata, or refusal 14.
-#[derive(Clone, Copy)]
-pub enum Spot {
-    At(usize),
-    Lost,
-}
-
 // Whether the four bytes at `at` are the word.
 pub fn is_word_at(order: ByteOrder, part: &[u8], word: u32, at: usize) -> bool
     requires { at + 4 ≤ length part.now }
@@ -37,31 +30,37 @@ pub fn find_dummy(order: ByteOrder, part: &[u8], word: u32) -> usize
     i
 }
 
-// The shift test of the first of two or more dummies, which was found at `at`.
-fn shift_dummy(order: ByteOrder, rodata: &[u8], at: usize) -> Spot
+// The shift test of the first of two or more dummies, which was found at `at`: its place, or none, which is refusal 14.
+fn shift_dummy(order: ByteOrder, rodata: &[u8], at: usize) -> Option<usize>
     requires { at ≤ length rodata.now }
     ensures { result ≡ shift_spot order rodata.now at }
 {
     if rodata.len() - at < 8 {
-        return Spot::Lost;
+        return None;
     }
     if is_word_at(order, rodata, 0, at + 4) {
-        return Spot::At(at + 4);
+        return Some(at + 4);
     }
-    Spot::At(at)
+    Some(at)
 }
 
-// The place of a dummy's late word; `many` says that it is the first of two or more in its block, `last` is the last place before it.
-pub fn place_dummy(order: ByteOrder, rodata: &[u8], many: bool, last: usize, word: u32) -> Spot
+// The place of a dummy's late word, or none, which is refusal 14; `many` says that it is the first of two or more in its block, `last` is the last place before it.
+pub fn place_dummy(
+    order: ByteOrder,
+    rodata: &[u8],
+    many: bool,
+    last: usize,
+    word: u32,
+) -> Option<usize>
     requires { last ≤ length rodata.now }
     ensures { result ≡ spot order rodata.now many last word }
 {
     let at = last + find_dummy(order, &rodata[last..], word);
     if rodata.len() - at < 4 {
-        return Spot::Lost;
+        return None;
     }
     if many {
         return shift_dummy(order, rodata, at);
     }
-    Spot::At(at)
+    Some(at)
 }

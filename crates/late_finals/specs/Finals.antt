@@ -1,5 +1,5 @@
 -- The bytes of C's section of a code c in the result, and which of them the merge writes (document 01, "Demand 3": "written: block copies, late moves, the zeroed word").
--- P are the places of the lines of the block file B, S are C's bytes of the section and T are A's, W are the bytes of A's.late_rodata, and s is where the late span starts
+-- P are the places of the lines of the block file B, S are C's bytes of the section and T are A's, W are the bytes of A's .late_rodata, and s is where the late span starts
 -- in them. .text, .data and .rodata differ in `is_late_target` alone.
 use Rattle.std.specs.Prelude.{ℕ, Bool, ◌&&◌, ◌||◌, List}
 use Rattle.base_lists.specs.Ranges.{pick_list}

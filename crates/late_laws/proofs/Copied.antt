@@ -1,5 +1,6 @@
--- The code searches C's own .rodata S, document 01 the one after block copying, R. Block copying changes nothing from the end of the last.rodata span on, and no search
--- looks before it, so what the code answers, leaves in its table and writes behind that end is what document 01 says. T are the bytes of A's.rodata. Assumes nothing.
+-- The code searches C's own .rodata S, document 01 the one after block copying, R. Block copying changes nothing from the end of the last .rodata span on, and no search
+-- looks before it, so what the code answers, leaves in its table and writes behind that end is what document 01 says. T are the bytes of A's .rodata. Assumes nothing.
+use Rattle.std.specs.Prelude.{Option}
 use Prim.Native.Nat.{ℕ, ◌+◌, ◌-◌, ◌≤◌, ◌<◌}
 use mathlib.Core.Path.{◌≡◌, sym, ap, ◌∙◌}
 use mathlib.Core.List.{List, ◌++◌}
@@ -9,7 +10,6 @@ use lib.Seq.{length-take-le}
 use Rattle.base_lists.specs.Windows.{spliced}
 use Rattle.base_lists.proofs.Windows.{spliced_then}
 use Rattle.base_fields.specs.declared.ByteOrder.{ByteOrder}
-use Rattle.base_scope.specs.declared.Finding.{Finding}
 use Rattle.base_scope.specs.Codes.{LATE_TARGET}
 use Rattle.blocks_places.specs.Lines.{line_count}
 use Rattle.blocks_places.specs.Places.{Place, end_at}
@@ -43,7 +43,7 @@ module _ (o : ByteOrder) (P : List Place) (B S T : List ℕ) (f : Fitting P B) w
   pub fault_copied : late_step_fault o P B S ≡ late_step_fault o P B R
   fault_copied = late_fault_agree o P B S R long agree
 
-  pub walk_copied : (s : ℕ) (r : Finding) (before after : List ℕ) → Walk o P B S s r before after → Walk o P B R s r before after
+  pub walk_copied : (s : ℕ) (r : Option ℕ) (before after : List ℕ) → Walk o P B S s r before after → Walk o P B R s r before after
   walk_copied = walk_agree o P B S R long agree
 
   pub moves_copied : (s : ℕ) (late : List ℕ) → Moves o P B S s late → Moves o P B R s late
@@ -57,11 +57,11 @@ module _ (o : ByteOrder) (P : List Place) (B S T : List ℕ) (f : Fitting P B) w
   jump_copied = jump_word_agree o P B S R long agree
 
   module _ (s : ℕ) (W : List ℕ) where
-    -- the runs of the final.rodata
+    -- the runs of the final .rodata
     pub runs_copied : (x : ℕ) → end_at P B (line_count B) LATE_TARGET ≤ x → x < length R → IsRun R W (late_byte o P B R s W) x (run_at o P B S s x)
     runs_copied = run_copied o P B S R long agree s W
 
-    -- the final.rodata from the end of the last.rodata block copied on
+    -- the final .rodata from the end of the last .rodata block copied on
     pub rest_copied : drop (end_at P B (line_count B) LATE_TARGET) (late_rodata o P B S s W) ≡ drop (end_at P B (line_count B) LATE_TARGET) (late_rodata o P B R s W)
     rest_copied = late_rest_agree o P B S R long agree s W
 

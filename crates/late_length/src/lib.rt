@@ -42,10 +42,8 @@ pub fn late_length(file: &[u8], table: &[u8], places: &[u8], blocks: usize) -> u
         × (result ≤ (4 * DUMMY_LIMIT + NUMBER_LIMIT) * BLOCK_LIMIT) }
 {
     let mut n: usize = 0;
-    let mut i: usize = 0;
-    while i < blocks {
+    for i in 0..blocks {
         n += late_bytes(file, table, places, i);
-        i += 1;
     }
     n
 }

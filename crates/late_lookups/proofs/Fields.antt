@@ -1,5 +1,6 @@
 -- The laws of the table's fields: each ascends over all rows, so the row of a number is found by binary search, and it is the only one whose range holds the number;
 -- and the answers in each of their ways. Assumes nothing.
+use Rattle.std.specs.Prelude.{None, Some}
 use Prim.Native.Nat.{ℕ, zero, suc, ◌+◌, ◌-◌, ◌*◌, ◌/◌, ◌%◌, ◌≤◌, ◌<◌}
 use mathlib.Core.Path.{◌≡◌, refl, sym, ◌∙◌}
 use mathlib.Core.Bool.{Bool, true, false}
@@ -15,7 +16,6 @@ use Rattle.base_lists.proofs.Halves.{GoesOn}
 use Rattle.base_fields.specs.declared.ByteOrder.TheVariants.{Big}
 use Rattle.base_fields.specs.Numbers.{number}
 use Rattle.base_scope.specs.Limits.{LATE_ROW, LATE_WORDS}
-use Rattle.late_lookups.specs.declared.LatePlace.TheVariants.{Moved, Unmoved}
 use Rattle.late_lookups.specs.Fields.{late_field, late_word, row_dummies, row_bytes, is_past, row_past, place_in_row, is_start, offset_at, is_table_word, jump_at, AtRow, LateRows}
 
 module _ (late : List ℕ) where
@@ -71,15 +71,15 @@ module _ (late : List ℕ) where
   table_past i x t = let r = and_parts (leb (late_field late 2 (i + 1)) (x + row_bytes late i)) _ t in (leb-true _ _ r.0, eqb-true _ _ r.1)
 
   module _ (n x : ℕ) where
-    pub offset_none : n ≤ row_past late 0 n x → Unmoved ≡ offset_at late n x
+    pub offset_none : n ≤ row_past late 0 n x → None ≡ offset_at late n x
     unfolding offset_at
     offset_none h = rw (le-ltb (row_past late 0 n x) n h)
 
-    pub offset_odd : (i : ℕ) → i ≡ row_past late 0 n x → i < n → is_start late i x ≡ false → Unmoved ≡ offset_at late n x
+    pub offset_odd : (i : ℕ) → i ≡ row_past late 0 n x → i < n → is_start late i x ≡ false → None ≡ offset_at late n x
     unfolding offset_at
     offset_odd i e h f = rw (← e, lt-ltb i n h, f)
 
-    pub offset_is : (i p : ℕ) → i ≡ row_past late 0 n x → i < n → is_start late i x ≡ true → p ≡ place_in_row late i x → Moved p ≡ offset_at late n x
+    pub offset_is : (i p : ℕ) → i ≡ row_past late 0 n x → i < n → is_start late i x ≡ true → p ≡ place_in_row late i x → Some p ≡ offset_at late n x
     unfolding offset_at
     offset_is i p e h t q = rw (← e, lt-ltb i n h, t, q)
 

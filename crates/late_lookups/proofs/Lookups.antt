@@ -1,5 +1,6 @@
 -- What the table of the late step says is what the definitions say: its rows are read back, so the block of an offset or of a place is the row whose range holds
 -- it, and the item follows by arithmetic. Assumes nothing.
+use Rattle.std.specs.Prelude.{None, Some}
 use Prim.Native.Nat.{ℕ, ◌+◌, ◌-◌, ◌*◌, ◌/◌, ◌%◌, ◌≤◌, ◌<◌}
 use mathlib.Core.Path.{◌≡◌, refl, sym, ap, ◌∙◌}
 use mathlib.Core.Bool.{true, false, cond}
@@ -27,7 +28,6 @@ use Rattle.late_walk.proofs.of_late_moves.Moved.{word_yes, word_in, word_fourth,
 use Rattle.late_walk.specs.Steps.{live_dummies}
 use Rattle.late_walk.specs.Table.{dummy_index, late_row_bytes, late_row_of, row_table, block_words, word_table, Moves}
 use Rattle.late_walk.proofs.Table.{length_rows, within_row, within_field, within_block, within_dummy, index_next, index_mono, length_words}
-use Rattle.late_lookups.specs.declared.LatePlace.TheVariants.{Moved, Unmoved}
 use Rattle.late_lookups.specs.Fields.{late_field, late_word, row_dummies, row_bytes, row_past, place_in_row, is_start, offset_at, is_table_word, jump_at, LateRows}
 use Rattle.late_lookups.specs.Lookups.{moved_offset}
 use Rattle.late_lookups.proofs.Fields.{place_word, place_rest, start_is, start_past, table_is, table_past, offset_none, offset_odd, offset_is, jump_none, jump_is, first_past_after, first_past_is}
@@ -247,13 +247,13 @@ module _ (o : ByteOrder) (P : List Place) (B R : List ℕ) (s : ℕ) (late : Lis
       (λ f. rw f (offset_miss f))
     where
       offset_hit : (i k : ℕ) → i < block_count B → k < items P B i → starts P B s x i k ≡ true
-          → offset_at late (block_count B) x ≡ Moved (moved_place o P B R s x)
+          → offset_at late (block_count B) x ≡ Some (moved_place o P B R s x)
       offset_hit i k h l t =
           let p = start_place x i k h l t in
           sym (offset_is late (block_count B) x i (moved_place o P B R s x) (sym (start_row x i k h l t)) h (start_found x i k h l t)
           (moved_is o P B R s x i k h l t ∙ sym p))
 
-      offset_miss : is_moved P B s x ≡ false → offset_at late (block_count B) x ≡ Unmoved
+      offset_miss : is_moved P B s x ≡ false → offset_at late (block_count B) x ≡ None
       offset_miss f = by-lt (row_past late 0 (block_count B) x) (block_count B)
           (λ h. by-test (is_start late (row_past late 0 (block_count B) x) x)
           (λ t.

@@ -1,14 +1,12 @@
 -- Of the code, not of document 01: what is read in the table of the late step. The fields of a row are a late offset, a number of dummies and a last place. All three
 -- ascend, so a row is found by binary search.
-use Rattle.std.specs.Prelude.{ℕ, ◌+◌, ◌-◌, ◌*◌, ◌/◌, ◌%◌, ◌≤◌, ◌<◌, Bool, true, false, cond, ◌&&◌, List, length, leb, ltb, eqb}
+use Rattle.std.specs.Prelude.{ℕ, ◌+◌, ◌-◌, ◌*◌, ◌/◌, ◌%◌, ◌≤◌, ◌<◌, Bool, true, false, cond, ◌&&◌, List, length, leb, ltb, eqb, None, Some, Option}
 use Rattle.base_lists.specs.Ranges.{first}
 use Rattle.base_fields.specs.declared.ByteOrder.TheVariants.{Big}
 use Rattle.base_fields.specs.Numbers.{number}
 use Rattle.base_scope.specs.Limits.{BLOCK_LIMIT, LATE_ROW, LATE_WORDS}
-use Rattle.late_lookups.specs.declared.LatePlace.{LatePlace}
-use Rattle.late_lookups.specs.declared.LatePlace.TheVariants.{Moved, Unmoved}
 
-abbrev pub pick_late_place : Bool → LatePlace → LatePlace → LatePlace
+abbrev pub pick_late_place : Bool → Option ℕ → Option ℕ → Option ℕ
 pick_late_place true a b = a
 pick_late_place false a b = b
 
@@ -57,8 +55,8 @@ module _ (late : List ℕ) where
   unfoldable pub is_start : ℕ → ℕ → Bool
   is_start i x = leb (late_field SOURCE i) x && eqb ((x - late_field SOURCE i) % 4) 0
 
-  unfoldable pub offset_at : ℕ → ℕ → LatePlace
-  offset_at n x = pick_late_place (ltb (row_past SOURCE n x) n && is_start (row_past SOURCE n x) x) (Moved (place_in_row (row_past SOURCE n x) x)) Unmoved
+  unfoldable pub offset_at : ℕ → ℕ → Option ℕ
+  offset_at n x = pick_late_place (ltb (row_past SOURCE n x) n && is_start (row_past SOURCE n x) x) (Some (place_in_row (row_past SOURCE n x) x)) None
 
   -- a word of block i's jump table, which ends at the next row's last place, is at x
   unfoldable pub is_table_word : ℕ → ℕ → Bool

@@ -11,13 +11,6 @@ use base_fields::ByteOrder;
 pub use late_walk;
 pub use late_walk::{blocks_items, late_length};
 
-// Where a late offset goes.
-#[derive(Clone, Copy)]
-pub enum LatePlace {
-    Moved(usize),
-    Unmoved,
-}
-
 // The fields of a row.
 pub const SOURCE: usize = 0;
 
@@ -97,20 +90,20 @@ fn place_in_row(late: &[u8], i: usize, x: usize) -> usize
     field_at(late, LAST, i + 1) - rest
 }
 
-// The place of late offset x in the table of n blocks.
-pub fn offset_at(late: &[u8], n: usize, x: u32) -> LatePlace
+// Where late offset x goes, by the table of n blocks; none where it is not moved.
+pub fn offset_at(late: &[u8], n: usize, x: u32) -> Option<usize>
     requires { LateRows late.now n }
     ensures { result ≡ offset_at late.now n x }
 {
     let offset = x as usize;
     let i = row_past(late, SOURCE, n, offset);
     if i == n {
-        return LatePlace::Unmoved;
+        return None;
     }
     if is_start(late, i, offset) {
-        return LatePlace::Moved(place_in_row(late, i, offset));
+        return Some(place_in_row(late, i, offset));
     }
-    LatePlace::Unmoved
+    None
 }
 
 // Whether a word of block i's jump table is at x.

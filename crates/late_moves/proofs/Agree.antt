@@ -1,4 +1,4 @@
--- Two versions of .rodata that have one length and are equal from the end of the last.rodata block copied on have the same late step: no search looks at
+-- Two versions of .rodata that have one length and are equal from the end of the last .rodata block copied on have the same late step: no search looks at
 -- a byte before that end. So C's own bytes are searched in place of those after block copying. Assumes nothing.
 use Prim.Native.Nat.{ℕ, zero, suc, ◌+◌, ◌-◌, ◌≤◌, ◌<◌}
 use mathlib.Core.Path.{◌≡◌, sym, ap, ◌∙◌}
@@ -123,7 +123,7 @@ module _ (o : ByteOrder) (P : List Place) (B R S : List ℕ) (long : length R �
         e,
       )
 
-  -- so the final.rodata is the same from the end of the last.rodata block copied on
+  -- so the final .rodata is the same from the end of the last .rodata block copied on
   pub late_rest_agree : (s : ℕ) (W : List ℕ) → drop (end_at P B (line_count B) LATE_TARGET) (late_rodata o P B R s W) ≡ drop (end_at P B (line_count B) LATE_TARGET) (late_rodata o P B S s W)
   late_rest_agree s W =
       let e = end_at P B (line_count B) LATE_TARGET in

@@ -105,7 +105,7 @@ pub table_word_lem : is_word 4 8 8 ≡ true
 unfolding is_word is_in
 table_word_lem = refl
 
--- ---- the final.rodata: the first dummy's old word, at 8, is zero
+-- ---- the final .rodata: the first dummy's old word, at 8, is zero
 
 pub old_word : (W : List ℕ) → late_byte Big there file rodata 100 W 8 ≡ 0
 unfolding late_byte has_row row_in has_index index_in move_covers zeroes is_in is_shifted move_place last_place last_from item_place item_length is_dummy first_of_many placed shifts found word_at first_from number turned magnitude

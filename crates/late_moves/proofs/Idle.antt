@@ -1,5 +1,5 @@
 -- Where there is no late step (no dummy and no jump table in a block that stays on) the definitions agree: no late offset is moved, no word is a jump word, and the
--- final.rodata is what it was. So what is said of a late step needs no case apart. Assumes nothing.
+-- final .rodata is what it was. So what is said of a late step needs no case apart. Assumes nothing.
 use Prim.Native.Nat.{ℕ, ◌<◌}
 use mathlib.Core.Path.{◌≡◌, ◌∙◌}
 use mathlib.Core.Bool.{false}

@@ -1,4 +1,4 @@
--- The laws of what the late step comes to: a byte is covered by one move at most, a zeroed word by none; the final.rodata byte by byte and part by part; a late
+-- The laws of what the late step comes to: a byte is covered by one move at most, a zeroed word by none; the final .rodata byte by byte and part by part; a late
 -- offset moves to a place of its own. Each comes from the order of the items. Assumes nothing.
 use Prim.Native.Nat.{ℕ, ◌+◌, ◌-◌, ◌%◌, ◌≤◌, ◌<◌}
 use mathlib.Core.Path.{◌≡◌, refl, sym, ap, ◌∙◌}
@@ -145,7 +145,7 @@ module _ (o : ByteOrder) (P : List Place) (B R : List ℕ) where
       (λ u. cover_low x i k (omega (arith, z.2, places_ascend o P B R j l i k g u)))
       (λ e f. rw (e, f) (cover_low x j l z.2))
 
-  -- a search sees no byte that an earlier item writes: it begins at or past the end of all of them, so searching.rodata with the moves so far finds the same
+  -- a search sees no byte that an earlier item writes: it begins at or past the end of all of them, so searching .rodata with the moves so far finds the same
   pub seen_uncovered : (x i k j l : ℕ) → k < items P B i → Before i k j l → last_place o P B R j l ≤ x → move_covers o P B R x i k ≡ false
   seen_uncovered x i k j l h u g = cover_high x i k (omega (arith, search_past o P B R i k j l h u))
 
@@ -154,7 +154,7 @@ module _ (o : ByteOrder) (P : List Place) (B R : List ℕ) where
       (λ t. absurd (omega (arith, (zero_in x i k t).2, search_past o P B R i k j l h u)))
       (λ f. f)
 
-  -- nothing is written in front of the end of the last.rodata block copied
+  -- nothing is written in front of the end of the last .rodata block copied
   pub cover_past : (x i k : ℕ) → x < end_at P B (line_count B) LATE_TARGET → move_covers o P B R x i k ≡ false
   cover_past x i k h = cover_low x i k (omega (arith, place_past o P B R i k))
 
@@ -231,7 +231,7 @@ module _ (o : ByteOrder) (P : List Place) (B R : List ℕ) where
                 let n : move_source P B s i k ≡ move_source P B s j l = rw (e, f) in
                 omega arith
 
-    -- ---- the final.rodata
+    -- ---- the final .rodata
 
     module _ (W : List ℕ) where
       pub length_late : length (late_rodata o P B R s W) ≡ length R
@@ -299,7 +299,7 @@ module _ (o : ByteOrder) (P : List Place) (B R : List ℕ) where
           (λ i k g l. none_row (move_covers o P B R (x + j)) (items P B) (block_count B) i k (a j u) g l)
           (λ i k g l. none_row (zeroes o P B R (x + j)) (items P B) (block_count B) i k (b j u) g l))
 
-      -- so are those in front of the end of the last.rodata block copied
+      -- so are those in front of the end of the last .rodata block copied
       pub front_same : (x w : ℕ) → x + w ≤ length R → x + w ≤ end_at P B (line_count B) LATE_TARGET
           → take w (drop x (late_rodata o P B R s W)) ≡ take w (drop x R)
       front_same x w h g = part_same (late_rodata o P B R s W) R x x w (rw length_late h) h (λ j u.

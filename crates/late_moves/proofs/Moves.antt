@@ -215,7 +215,7 @@ module _ (o : ByteOrder) (P : List Place) (B R : List ℕ) where
   pub places_ascend : (i k j l : ℕ) → k < items P B i → Before i k j l → move_place o P B R i k + item_length B i k ≤ move_place o P B R j l
   places_ascend i k j l h order = omega (arith, search_past i k j l h order, place_low j l)
 
-  -- all of them lie at or past the end of the last.rodata block copied
+  -- all of them lie at or past the end of the last .rodata block copied
   pub last_past : (i k : ℕ) → end_at P B (line_count B) LATE_TARGET ≤ last_place o P B R i k
   last_past i k = omega (arith, late_zero, late_mono 0 i (omega arith), last_low i k)
 

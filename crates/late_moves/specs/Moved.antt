@@ -1,5 +1,5 @@
 -- What the late step comes to (document 01, "Late words": "a word's offset there moves to its place", "its words start at every fourth byte", "its old word becomes
--- zero"): the place of a late offset, the words of jump tables, and the final bytes of .rodata. s is where A's late span starts, W are the bytes of A's.late_rodata.
+-- zero"): the place of a late offset, the words of jump tables, and the final bytes of .rodata. s is where A's late span starts, W are the bytes of A's .late_rodata.
 use Rattle.std.specs.Prelude.{ℕ, ◌+◌, ◌-◌, ◌%◌, Bool, true, cond, ◌&&◌, List, length, get_or, eqb, leb, ltb}
 use Rattle.base_lists.specs.Ranges.{select}
 use Rattle.base_lists.specs.Rows.{row_in, column_in, has_row}
@@ -64,7 +64,7 @@ module _ (o : ByteOrder) (P : List Place) (B R : List ℕ) where
     unfoldable pub covered_by : ℕ → ℕ
     covered_by x = offset_in_move x (row_in (move_covers x) (items P B) (block_count B)) (column_in (move_covers x) (items P B) (block_count B))
 
-    -- byte x of the final.rodata: inside a move A's, in a zeroed word 0, else as it was
+    -- byte x of the final .rodata: inside a move A's, in a zeroed word 0, else as it was
     unfoldable pub late_byte : List ℕ → ℕ → ℕ
     late_byte W x =
         cond (has_row (move_covers x) (items P B) (block_count B))

@@ -53,7 +53,7 @@ module _ (P : List Place) (B : List ℕ) where
   move_source s i k = late_source s i + 4 * k
 
 module _ (o : ByteOrder) (P : List Place) (B R : List ℕ) where
-  -- the last place before block i; before the first one it is the end of the last.rodata block copied, 0 if none
+  -- the last place before block i; before the first one it is the end of the last .rodata block copied, 0 if none
   unfoldable pub late_from : ℕ → ℕ
   late_from zero = end_at P B (line_count B) LATE_TARGET
   late_from (suc i) = last_from o B R i (late_from i) (items P B i)

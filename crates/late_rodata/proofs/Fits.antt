@@ -1,4 +1,4 @@
--- A run of an accepted late step lies inside .rodata and inside its source, and its bytes are that part of the final.rodata. Assumes nothing.
+-- A run of an accepted late step lies inside .rodata and inside its source, and its bytes are that part of the final .rodata. Assumes nothing.
 use Prim.Native.Nat.{ℕ, ◌+◌, ◌-◌, ◌≤◌, ◌<◌}
 use mathlib.Core.Path.{◌≡◌, refl, sym, ◌∙◌}
 use mathlib.Core.List.{List}

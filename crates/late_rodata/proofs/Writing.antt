@@ -1,4 +1,4 @@
--- The laws of writing the final.rodata: zeros, one run, and the runs one behind the other, which are the final.rodata from the end of the last.rodata block copied on.
+-- The laws of writing the final .rodata: zeros, one run, and the runs one behind the other, which are the final .rodata from the end of the last .rodata block copied on.
 -- Assumes nothing.
 use Prim.Native.Nat.{ℕ, ◌+◌, ◌-◌, ◌≤◌, ◌<◌}
 use mathlib.Core.Path.{◌≡◌, refl, ap, ◌∙◌}
@@ -80,7 +80,7 @@ module _ (R W : List ℕ) (x at : ℕ) (r : Run) where
     unfolding run_length run_bytes
     zeros_wrote before after q = rw e (refl, q)
 
--- ---- the runs from the end of the last.rodata block copied on
+-- ---- the runs from the end of the last .rodata block copied on
 
 module _ (o : ByteOrder) (P : List Place) (B R W table late : List ℕ) (s last : ℕ) (y : Moving o P B R W table late s last) (n : ℕ) (counted : n ≡ block_count B) where
   starts : end_at P B (line_count B) LATE_TARGET ≤ length R
@@ -123,7 +123,7 @@ module _ (o : ByteOrder) (P : List Place) (B R W table late : List ℕ) (s last 
   rest_long : length (drop last (late_rodata o P B R s W)) ≡ length R - last
   rest_long = rw (length-drop last (late_rodata o P B R s W), length_late o P B R s W)
 
-  -- what is written is the final.rodata from `last` on
+  -- what is written is the final .rodata from `last` on
   pub rest_read_lem : rest_read o B R W late n last ≡ drop last (late_rodata o P B R s W)
   unfolding rest_read
   rest_read_lem =

@@ -1,5 +1,5 @@
--- Of the code, not of document 01: what writing the final.rodata from the end of the last.rodata block copied on relies on, and what it leaves. R is C's.rodata, W are
--- the bytes of A's.late_rodata. What is written is `late_rodata` of the crate late_moves from there on (proofs/Writing.antt, `rest_read_lem`).
+-- Of the code, not of document 01: what writing the final .rodata from the end of the last .rodata block copied on relies on, and what it leaves. R is C's .rodata, W are
+-- the bytes of A's .late_rodata. What is written is `late_rodata` of the crate late_moves from there on (proofs/Writing.antt, `rest_read_lem`).
 use Rattle.std.specs.Prelude.{ℕ, ◌+◌, ◌-◌, ◌≤◌, ◌<◌, ◌≡◌, List, [], length, take, drop}
 use Rattle.base_lists.specs.Windows.{spliced}
 use Rattle.base_lists.specs.Records.{flat}
@@ -43,7 +43,7 @@ module _ (o : ByteOrder) (B R W late : List ℕ) (n : ℕ) where
   unfoldable pub rest_read : ℕ → List ℕ
   rest_read last = flat (λ (p : List ℕ). p) (pieces_from (λ j. run_part (last + j)) length (length R - last) 0 (length R - last))
 
--- the late step of places P is accepted, its table is in hand, and the late span, which starts at s, lies inside W; `last` is the end of the last.rodata block copied
+-- the late step of places P is accepted, its table is in hand, and the late span, which starts at s, lies inside W; `last` is the end of the last .rodata block copied
 pub record Moving (o : ByteOrder) (P : List Place) (B R W table late : List ℕ) (s last : ℕ) : Type 0 where
   pub moves : Moves o P B R s late
   pub parsed : Parsed B table
@@ -59,7 +59,7 @@ pub record RestInHand (o : ByteOrder) (B R W table late : List ℕ) (last : ℕ)
   pub start : ℕ
   pub moving : Moving o places B R W table late start last
 
--- and an offset behind the last.rodata block copied
+-- and an offset behind the last .rodata block copied
 pub record AtOffset (o : ByteOrder) (B R W table late : List ℕ) (k : ℕ) : Type 0 where
   pub last : ℕ
   pub hand : RestInHand o B R W table late last

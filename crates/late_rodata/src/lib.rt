@@ -1,6 +1,6 @@
 // The final .rodata from the end of the last .rodata block copied on, written in ascending order into a slice: C's bytes, A's late bytes and zeros, run by run. What is
 // written is read in the table of the late step; that it is `late_rodata` of the crate late_moves (document 01, "Late words") is a law (proofs/Writing.antt,
-// `rest_read`). In front of it stands what block copying makes of .rodata.
+// `rest_read_lem`). In front of it stands what block copying makes of .rodata.
 #![tactic(auto)]
 
 ghost use Rattle.std.specs.Prelude.{◌≡◌, ◌+◌, ◌≤◌, length};

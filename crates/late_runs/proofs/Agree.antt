@@ -1,4 +1,4 @@
--- The runs found over C's own .rodata are those of .rodata after block copying (crates/late_moves, proofs/Agree.antt), so they are the final.rodata byte by byte.
+-- The runs found over C's own .rodata are those of .rodata after block copying (crates/late_moves, proofs/Agree.antt), so they are the final .rodata byte by byte.
 -- Assumes nothing.
 use Prim.Native.Nat.{ℕ, ◌+◌, ◌≤◌, ◌<◌}
 use mathlib.Core.Path.{◌≡◌, ap}

@@ -166,7 +166,7 @@ module _ (o : ByteOrder) (P : List Place) (B R : List ℕ) (x : ℕ) where
       ended : (j m : ℕ) → j < block_count B → m < items P B j → move_place o P B R j m + item_length B j m ≤ y
       ended j m a b = omega (arith, place_end o P B R j m b, block_before (run_block o P B R x) refl j (omega arith))
 
-  -- a run has at least one byte, and each of its bytes is what the final.rodata holds there
+  -- a run has at least one byte, and each of its bytes is what the final .rodata holds there
   pub run_is : (s : ℕ) (W : List ℕ) → end_at P B (line_count B) LATE_TARGET ≤ x → x < length R → IsRun R W (late_byte o P B R s W) x (run_at o P B R s x)
   unfolding run_at
   run_is s W past inside = by-lt (run_block o P B R x) (block_count B)

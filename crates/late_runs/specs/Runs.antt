@@ -1,4 +1,4 @@
--- Of the code, not of document 01: the final.rodata as runs. At a position at or past the end of the last.rodata block copied, the bytes of one kind that begin there.
+-- Of the code, not of document 01: the final .rodata as runs. At a position at or past the end of the last .rodata block copied, the bytes of one kind that begin there.
 -- Byte by byte a run is `late_byte` of the crate late_moves (proofs/Runs.antt, `run_is`).
 use Rattle.std.specs.Prelude.{ℕ, ◌+◌, ◌-◌, Bool, true, false, List, length, get_or, leb, ltb}
 use Rattle.base_lists.specs.Ranges.{first}

@@ -80,7 +80,7 @@ pub record AtWord (B R table late : List ℕ) (i count k x : ℕ) : Type 0 where
   pub offset : late_field late SOURCE i ≤ FILE_LIMIT
   pub past : x < dummy_place late i k + 4
 
--- the late step of places P that is accepted, with the late span at s, its table in hand, and a position at or past the end of the last.rodata block copied
+-- the late step of places P that is accepted, with the late span at s, its table in hand, and a position at or past the end of the last .rodata block copied
 pub record AtRun (o : ByteOrder) (P : List Place) (B R table late : List ℕ) (s x : ℕ) : Type 0 where
   pub moves : Moves o P B R s late
   pub parsed : Parsed B table

@@ -1,5 +1,6 @@
--- The walk over C's own .rodata is the walk over .rodata after block copying: both are equal from the end of the last.rodata block copied on
+-- The walk over C's own .rodata is the walk over .rodata after block copying: both are equal from the end of the last .rodata block copied on
 -- (crates/late_moves, proofs/Agree.antt), so the answer and the table are the same. Assumes nothing.
+use Rattle.std.specs.Prelude.{Option}
 use Prim.Native.Nat.{ℕ}
 use mathlib.Core.Path.{◌≡◌, refl, sym, ap, ◌∙◌}
 use mathlib.Core.Bool.{true}
@@ -10,7 +11,6 @@ use Rattle.base_lists.proofs.Ranges.{first_ext, select_same, gather_same}
 use Rattle.base_fields.specs.declared.ByteOrder.{ByteOrder}
 use Rattle.base_fields.specs.declared.ByteOrder.TheVariants.{Big}
 use Rattle.base_fields.specs.Numbers.{encoded}
-use Rattle.base_scope.specs.declared.Finding.{Finding}
 use Rattle.base_scope.specs.Codes.{LATE_TARGET}
 use Rattle.late_blocks.specs.of_blocks_places.Lines.{line_count}
 use Rattle.late_blocks.specs.of_blocks_places.Places.{Place, end_at}
@@ -59,7 +59,7 @@ module _ (o : ByteOrder) (P : List Place) (B R S : List ℕ) (long : length R �
   filled_agree s before n m = rw (rows_agree s n, words_agree m)
 
   -- what the walk over R answers and leaves is what it says of S
-  pub walk_agree : (s : ℕ) (r : Finding) (before after : List ℕ) → Walk o P B R s r before after → Walk o P B S s r before after
+  pub walk_agree : (s : ℕ) (r : Option ℕ) (before after : List ℕ) → Walk o P B R s r before after → Walk o P B S s r before after
   walk_agree s r before after w = record {
     answer = rw (← late_fault_agree o P B R S long agree) w.answer;
     table = rw (← late_fault_agree o P B R S long agree) (w.table ∙ filled_agree s before _ _);

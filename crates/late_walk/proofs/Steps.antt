@@ -1,4 +1,5 @@
 -- The laws of the step of a block: one that is switched off has no items, one that is not has its dummies and its jump table. Assumes nothing.
+use Rattle.std.specs.Prelude.{None, Some}
 use Prim.Native.Nat.{ℕ, ◌+◌, ◌*◌, ◌<◌}
 use mathlib.Core.Path.{◌≡◌, sym, ap, ◌∙◌}
 use mathlib.Core.Bool.{true, false}
@@ -19,7 +20,6 @@ use Rattle.late_blocks.specs.Items.{fault_from, sound_items, place_words}
 use Rattle.late_blocks.proofs.Items.{words_zero}
 use Rattle.late_walk.specs.declared.LateRow.{LateRow}
 use Rattle.late_walk.specs.Steps.{live_dummies, block_step}
-use Rattle.late_walk.specs.declared.BlockStep.TheVariants.{Next, Stop}
 
 module _ (o : ByteOrder) (P : List Place) (B R : List ℕ) (i : ℕ) (row : LateRow) where
   module _ (count n : ℕ) (t : live P B i ≡ true) (d : count ≡ dummy_count B i) (j : n ≡ jump_table B i) where
@@ -35,14 +35,14 @@ module _ (o : ByteOrder) (P : List Place) (B R : List ℕ) (i : ℕ) (row : Late
     words_live before after at e = rw live_count e
 
     pub step_next : (p : ℕ) → sound_items o B R i row.last (count + 1) ≡ count + 1 → p ≡ last_from o B R i row.last (count + 1)
-        → Next (record { source = row.source + 4 * count + n; dummies = row.dummies + count; last = p }) ≡ block_step o P B R i row
+        → Some (record { source = row.source + 4 * count + n; dummies = row.dummies + count; last = p }) ≡ block_step o P B R i row
     unfolding block_step
     step_next p e q =
         let h : ltb (count + 1) (count + 1) ≡ false = le-ltb (count + 1) (count + 1) (omega arith) in
         let b : row.source + 4 * count + n ≡ row.source + (4 * count + n) = omega arith in
         rw (live_items, e, h, live_count, bytes_live P B i t, ← d, ← j, b, q)
 
-    pub step_stop : sound_items o B R i row.last (count + 1) < count + 1 → Stop ≡ block_step o P B R i row
+    pub step_stop : sound_items o B R i row.last (count + 1) < count + 1 → None ≡ block_step o P B R i row
     unfolding block_step
     step_stop h = rw (live_items, lt-ltb _ _ h)
 
@@ -51,7 +51,7 @@ module _ (o : ByteOrder) (P : List Place) (B R : List ℕ) (i : ℕ) (row : Late
     unfolding live_dummies
     off_count = rw f
 
-    pub step_off : Next row ≡ block_step o P B R i row
+    pub step_off : Some row ≡ block_step o P B R i row
     unfolding block_step sound_items
     step_off =
         let s : row.source + 0 ≡ row.source = omega arith in

@@ -1,5 +1,6 @@
 -- The laws of the walk: what its step tells of a block, the turns of its loop, and that the table which it leaves where nothing is at fault holds every row and
 -- every place. Assumes nothing.
+use Rattle.std.specs.Prelude.{None, Some, Option}
 use Prim.Native.Nat.{ℕ, ◌+◌, ◌*◌, min, ◌≤◌, ◌<◌}
 use mathlib.Core.Path.{◌≡◌, refl, sym, ap, ◌∙◌}
 use mathlib.Core.Bool.{Bool, true, false}
@@ -15,7 +16,6 @@ use Rattle.base_lists.proofs.Windows.{within_spliced, length_spliced, spliced_co
 use Rattle.base_lists.specs.Rows.{index_in, has_index, row_in}
 use Rattle.base_lists.proofs.Rows.{none_index}
 use Rattle.base_fields.specs.declared.ByteOrder.{ByteOrder}
-use Rattle.base_scope.specs.declared.Finding.TheVariants.{Clear, At}
 use Rattle.base_scope.specs.Limits.{FILE_LIMIT, BLOCK_LIMIT, DUMMY_LIMIT, LATE_ROW, LATE_WORDS, LATE_TABLE}
 use Rattle.base_scope.specs.Refusals.{pick_finding, found_below}
 use Rattle.blocks_file.specs.Blocks.{block_count}
@@ -26,8 +26,6 @@ use Rattle.late_blocks.specs.of_late_length.declared.LateStep.{LateStep}
 use Rattle.late_blocks.specs.of_late_moves.Moves.{last_from, items, late_source, late_from, last_place, is_move_fault, late_step_fault}
 use Rattle.late_blocks.proofs.of_late_moves.Moves.{source_zero, source_next, late_zero, late_next}
 use Rattle.late_walk.specs.declared.LateRow.{LateRow}
-use Rattle.late_walk.specs.declared.BlockStep.{BlockStep}
-use Rattle.late_walk.specs.declared.BlockStep.TheVariants.{Next, Stop}
 use Rattle.late_blocks.specs.Items.{fault_from, sound_items, place_words}
 use Rattle.late_walk.specs.Steps.{live_dummies, pick_block_step, block_step, AtBlock}
 use Rattle.late_walk.specs.Table.{dummy_index, late_row_bytes, late_row_of, row_table, block_words, word_table, filled, Ready, Walk, Moves}
@@ -36,10 +34,10 @@ use Rattle.late_walk.proofs.Table.{length_rows, index_zero_lem, index_next, inde
 
 -- ---- what a step tells
 
-next_inj : (a b : LateRow) → Next a ≡ Next b → a ≡ b
+next_inj : (a b : LateRow) → Some a ≡ Some b → a ≡ b
 next_inj a b e = cc
 
-next_stop : {A : Type 0} (p q : A) (a : LateRow) → Next a ≡ Stop → p ≡ q
+next_stop : {A : Type 0} (p q : A) (a : LateRow) → Some a ≡ None → p ≡ q
 next_stop p q a e = cc
 
 -- the row of a step, and the test that it passed
@@ -47,11 +45,11 @@ pub record Told (t : Bool) (a x : LateRow) : Type 0 where
   pub sound : t ≡ false
   pub row : x ≡ a
 
-told_next : (t : Bool) (a x : LateRow) (r : BlockStep) → r ≡ pick_block_step t Stop (Next a) → r ≡ Next x → Told t a x
+told_next : (t : Bool) (a x : LateRow) (r : Option LateRow) → r ≡ pick_block_step t None (Some a) → r ≡ Some x → Told t a x
 told_next true a x r e q = record { sound = next_stop true false x (sym q ∙ e); row = next_stop x a x (sym q ∙ e) }
 told_next false a x r e q = record { sound = refl; row = next_inj x a (sym q ∙ e) }
 
-told_stop : (t : Bool) (a : LateRow) (r : BlockStep) → r ≡ pick_block_step t Stop (Next a) → r ≡ Stop → t ≡ true
+told_stop : (t : Bool) (a : LateRow) (r : Option LateRow) → r ≡ pick_block_step t None (Some a) → r ≡ None → t ≡ true
 told_stop true a r e q = refl
 told_stop false a r e q = next_stop false true a (sym e ∙ q)
 
@@ -81,15 +79,15 @@ module _ (o : ByteOrder) (P : List Place) (B R : List ℕ) (i : ℕ) where
       rw step_last (sound_inside o B R i (late_from o P B R i) (items P B i) h e)
 
   -- the step from the row of block i: the row of the next one, or that the block is at fault
-  step_is : (s : ℕ) → block_step o P B R i (late_row_of o P B R s i) ≡ pick_block_step (has_index (is_move_fault o P B R) (items P B) i) Stop (Next (late_row_of o P B R s (i + 1)))
+  step_is : (s : ℕ) → block_step o P B R i (late_row_of o P B R s i) ≡ pick_block_step (has_index (is_move_fault o P B R) (items P B) i) None (Some (late_row_of o P B R s (i + 1)))
   unfolding block_step late_row_of
   step_is s = rw (← step_fault, step_last, source_next P B s i, index_next P B i)
 
-  module _ (s : ℕ) (row : LateRow) (r : BlockStep) (is : r ≡ block_step o P B R i row) (before : row ≡ late_row_of o P B R s i) where
-    pub step_next : (x : LateRow) → r ≡ Next x → Told (has_index (is_move_fault o P B R) (items P B) i) (late_row_of o P B R s (i + 1)) x
+  module _ (s : ℕ) (row : LateRow) (r : Option LateRow) (is : r ≡ block_step o P B R i row) (before : row ≡ late_row_of o P B R s i) where
+    pub step_next : (x : LateRow) → r ≡ Some x → Told (has_index (is_move_fault o P B R) (items P B) i) (late_row_of o P B R s (i + 1)) x
     step_next x q = told_next _ _ x r (is ∙ ap (block_step o P B R i) before ∙ step_is s) q
 
-    pub step_stop : r ≡ Stop → has_index (is_move_fault o P B R) (items P B) i ≡ true
+    pub step_stop : r ≡ None → has_index (is_move_fault o P B R) (items P B) i ≡ true
     step_stop q = told_stop _ _ r (is ∙ ap (block_step o P B R i) before ∙ step_is s) q
 
 -- ---- the loop
@@ -159,7 +157,7 @@ module _ (o : ByteOrder) (P : List Place) (B R table places : List ℕ) (blocks 
     rowed_long = rw rowed_is (length_filled o P B R step.start before (i + 1) i (omega (arith, w.few, count_high B)) words_fit)
 
     -- the end of the file: all blocks are placed
-    pub walking_end : block_count B ≤ i → Walk o P B R step.start Clear before rowed
+    pub walking_end : block_count B ≤ i → Walk o P B R step.start None before rowed
     unfolding found_below
     walking_end h =
         let q : i ≡ block_count B = omega (arith, w.few) in
@@ -196,7 +194,7 @@ module _ (o : ByteOrder) (P : List Place) (B R table places : List ℕ) (blocks 
             let g : LATE_WORDS + 3 * row.dummies + length (block_words o P B R i) ≤ length before = omega (arith, block_room o P B R i, words_room) in
             k ∙ rw (row_last, rowed_is) (filled_words o P B R step.start before i (i + 1) (LATE_WORDS + 3 * row.dummies) (omega (arith, count_high B)) a g)
 
-        pub walking_stop : has_index (is_move_fault o P B R) (items P B) i ≡ true → Walk o P B R step.start (At i) before after
+        pub walking_stop : has_index (is_move_fault o P B R) (items P B) i ≡ true → Walk o P B R step.start (Some i) before after
         unfolding found_below
         walking_stop t =
             let f : late_step_fault o P B R ≡ i = w.clear ∙ first_here (has_index (is_move_fault o P B R) (items P B)) i (block_count B) h t in
@@ -221,11 +219,11 @@ module _ (o : ByteOrder) (P : List Place) (B R table places : List ℕ) (blocks 
 
 -- ---- the table that is left where nothing is at fault
 
-told_clear : (n k : ℕ) (t : Bool) → Clear ≡ pick_finding t (At k) Clear → t ≡ false
+told_clear : (n k : ℕ) (t : Bool) → None ≡ pick_finding t (Some k) None → t ≡ false
 told_clear n k true e = cc
 told_clear n k false e = refl
 
-module _ (o : ByteOrder) (P : List Place) (B R : List ℕ) (s : ℕ) (before after : List ℕ) (w : Walk o P B R s Clear before after) where
+module _ (o : ByteOrder) (P : List Place) (B R : List ℕ) (s : ℕ) (before after : List ℕ) (w : Walk o P B R s None before after) where
   no_fault : late_step_fault o P B R ≡ block_count B
   unfolding found_below late_step_fault row_in
   no_fault =

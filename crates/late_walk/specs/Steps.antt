@@ -1,5 +1,5 @@
 -- Of the code, not of document 01: what the walk over the blocks makes of one block.
-use Rattle.std.specs.Prelude.{ℕ, ◌+◌, ◌*◌, ◌≤◌, ◌<◌, Bool, true, false, cond, List, length, ltb}
+use Rattle.std.specs.Prelude.{ℕ, ◌+◌, ◌*◌, ◌≤◌, ◌<◌, Bool, true, false, cond, List, length, ltb, None, Some, Option}
 use Rattle.base_fields.specs.declared.ByteOrder.{ByteOrder}
 use Rattle.base_scope.specs.Limits.{FILE_LIMIT, DUMMY_LIMIT, PLACE_ROW, LATE_WORDS}
 use Rattle.blocks_file.specs.Blocks.{block_count}
@@ -10,10 +10,8 @@ use Rattle.late_blocks.specs.of_blocks_items.Items.{dummy_count, late_bytes}
 use Rattle.late_blocks.specs.of_late_moves.Moves.{last_from, items}
 use Rattle.late_blocks.specs.Items.{sound_items}
 use Rattle.late_walk.specs.declared.LateRow.{LateRow}
-use Rattle.late_walk.specs.declared.BlockStep.{BlockStep}
-use Rattle.late_walk.specs.declared.BlockStep.TheVariants.{Next, Stop}
 
-abbrev pub pick_block_step : Bool → BlockStep → BlockStep → BlockStep
+abbrev pub pick_block_step : Bool → Option LateRow → Option LateRow → Option LateRow
 pick_block_step true a b = a
 pick_block_step false a b = b
 
@@ -23,11 +21,11 @@ module _ (P : List Place) (B : List ℕ) where
   live_dummies i = cond (live P B i) (dummy_count B i) 0
 
 -- the row of block i + 1, from that of block i; or refusal 14
-unfoldable pub block_step : ByteOrder → List Place → List ℕ → List ℕ → ℕ → LateRow → BlockStep
+unfoldable pub block_step : ByteOrder → List Place → List ℕ → List ℕ → ℕ → LateRow → Option LateRow
 block_step o P B R i row =
     pick_block_step (ltb (sound_items o B R i row.last (items P B i)) (items P B i))
-    Stop
-    (Next (record {
+    None
+    (Some (record {
       source = row.source + late_bytes P B i;
       dummies = row.dummies + live_dummies P B i;
       last = last_from o B R i row.last (items P B i);

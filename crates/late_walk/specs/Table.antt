@@ -1,13 +1,12 @@
 -- Of the code, not of document 01: the table of the late step. A row for each block and one behind the last: the late offset, the number of dummies and the last place
 -- before it; then the places of all dummies, three bytes each. Every other place follows from these (crates/late_lookups).
-use Rattle.std.specs.Prelude.{ℕ, ◌+◌, min, ◌*◌, ◌≤◌, true, List, [], ◌∷◌, ◌≡◌, length}
+use Rattle.std.specs.Prelude.{ℕ, ◌+◌, min, ◌*◌, ◌≤◌, true, List, [], ◌∷◌, ◌≡◌, length, Option}
 use Rattle.base_lists.specs.Ranges.{sum, gather}
 use Rattle.base_lists.specs.Records.{flat}
 use Rattle.base_lists.specs.Windows.{Within, spliced}
 use Rattle.base_fields.specs.declared.ByteOrder.{ByteOrder}
 use Rattle.base_fields.specs.declared.ByteOrder.TheVariants.{Big}
 use Rattle.base_fields.specs.Numbers.{encoded}
-use Rattle.base_scope.specs.declared.Finding.{Finding}
 use Rattle.base_scope.specs.Codes.{LATE_TARGET}
 use Rattle.base_scope.specs.Limits.{FILE_LIMIT, PLACE_ROW, LATE_WORDS}
 use Rattle.base_scope.specs.Refusals.{found_below}
@@ -60,7 +59,7 @@ pub record Ready (P : List Place) (B R table places : List ℕ) (blocks : ℕ) (
   pub inside : step.last ≤ length R
 
 -- what the walk answers, and what it leaves in the table: the rows up to the block at fault, or all, and the places of the dummies before the fault
-pub record Walk (o : ByteOrder) (P : List Place) (B R : List ℕ) (s : ℕ) (r : Finding) (before after : List ℕ) : Type 0 where
+pub record Walk (o : ByteOrder) (P : List Place) (B R : List ℕ) (s : ℕ) (r : Option ℕ) (before after : List ℕ) : Type 0 where
   pub answer : r ≡ found_below (block_count B) (late_step_fault o P B R)
   pub table : after ≡ filled o P B R s before (late_step_fault o P B R + 1) (min (late_step_fault o P B R + 1) (block_count B))
 

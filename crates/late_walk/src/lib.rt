@@ -12,11 +12,9 @@ ghost use Rattle.late_walk.specs.Steps.{live_dummies, block_step, AtBlock};
 ghost use Rattle.late_walk.specs.Table.{late_row_bytes, Ready, Walk};
 
 use base_fields::ByteOrder;
-use base_scope::Finding;
 use late_blocks::blocks_places;
 use late_blocks::late_length::LateStep;
 pub use late_blocks::{blocks_items, late_length};
-use late_dummies::Spot;
 
 // What stands before a block: the late offset, the number of dummies and the last place.
 #[derive(Clone, Copy)]
@@ -26,14 +24,7 @@ pub struct LateRow {
     pub last: usize,
 }
 
-// What stands before the next block, or refusal 14.
-#[derive(Clone, Copy)]
-pub enum BlockStep {
-    Next(LateRow),
-    Stop,
-}
-
-// Block i in the walk; `row` stands before it.
+// What stands before the block behind block i, or none, which is refusal 14; `row` stands before block i.
 fn step_block(
     order: ByteOrder,
     file: &[u8],
@@ -43,7 +34,7 @@ fn step_block(
     rodata: &[u8],
     row: LateRow,
     late: &mut [u8],
-) -> BlockStep
+) -> Option<LateRow>
     requires { AtBlock (places_in places.now (line_count file.now)) file.now rodata.now table.now places.now late.old i row }
     ensures { (result ≡ block_step order (places_in places.now (line_count file.now)) file.now rodata.now i row)
         × (late.new ≡ spliced late.old (LATE_WORDS + 3 * row.dummies) (place_words order file.now rodata.now i row.last (live_dummies (places_in places.now (line_count file.now)) file.now i))) }
@@ -52,18 +43,16 @@ fn step_block(
         let count = blocks_items::dummy_count(table, i);
         let bytes = blocks_items::jump_table(file, table, i);
         let at = base_scope::LATE_WORDS + 3 * row.dummies;
-        return match late_blocks::place_block(
+        let end = late_blocks::place_block(
             order, rodata, file, table, i, count, bytes, row.last, late, at,
-        ) {
-            Spot::At(end) => BlockStep::Next(LateRow {
-                source: row.source + 4 * count + bytes,
-                dummies: row.dummies + count,
-                last: end,
-            }),
-            Spot::Lost => BlockStep::Stop,
-        };
+        )?;
+        return Some(LateRow {
+            source: row.source + 4 * count + bytes,
+            dummies: row.dummies + count,
+            last: end,
+        });
     }
-    BlockStep::Next(row)
+    Some(row)
 }
 
 // Writes the row of block i.
@@ -86,7 +75,7 @@ pub fn place_late(
     rodata: &[u8],
     step: LateStep,
     late: &mut [u8],
-) -> Finding
+) -> Option<usize>
     requires { Ready (places_in places.now (line_count file.now)) file.now rodata.now table.now places.now blocks step × (LATE_TABLE ≤ length late.old) }
     ensures { Walk order (places_in places.now (line_count file.now)) file.now rodata.now step.start result late.old late.new }
 {
@@ -95,17 +84,15 @@ pub fn place_late(
         dummies: 0,
         last: step.last,
     };
-    let mut i: usize = 0;
-    while i < blocks {
+    for i in 0..blocks {
         store_row(late, i, row);
         match step_block(order, file, table, places, i, rodata, row, late) {
-            BlockStep::Next(next) => {
+            Some(next) => {
                 row = next;
-                i += 1;
             }
-            BlockStep::Stop => return Finding::At(i),
+            None => return Some(i),
         }
     }
-    store_row(late, i, row);
-    Finding::Clear
+    store_row(late, blocks, row);
+    None
 }

@@ -1,4 +1,5 @@
 -- What each stage of the merge leaves in the working buffers is what the next one needs; and what the call leaves. Assumes nothing.
+use Rattle.std.specs.Prelude.{Option}
 use Prim.Native.Nat.{ℕ, ◌≤◌}
 use mathlib.Core.Path.{◌≡◌, refl, ap, ◌∙◌}
 use mathlib.Core.List.{List}
@@ -8,17 +9,15 @@ use Rattle.base_buffers.specs.Buffers.{zeros, zeroed_from}
 use Rattle.base_fields.specs.declared.ByteOrder.{ByteOrder}
 use Rattle.base_index.specs.Index.{Room}
 use Rattle.base_scope.specs.Limits.{SYMBOL_LIMIT, LATE_TABLE, BLOCK_TABLE, PLACE_TABLE, SYMBOL_INDEX}
-use Rattle.base_scope.specs.declared.Finding.{Finding}
 use Rattle.base_answers.specs.declared.Outcome.{Outcome}
-use Rattle.base_answers.specs.declared.Verdict.{Verdict}
-use Rattle.base_answers.specs.declared.Verdict.TheVariants.{Passed, Refused}
+use Rattle.base_answers.specs.Verdicts.{Passed, Refused, Verdict}
 use Rattle.base_answers.specs.Answers.{Answer, refused}
 use Rattle.base_answers.specs.Answered.{Answered}
 use Rattle.base_answers.proofs.Answered.{answered_output}
 use Rattle.elf_index.specs.Index.{SymbolIndex}
 use Rattle.blocks_places.specs.Lines.{line_count}
 use Rattle.blocks_places.specs.Table.{places_in}
-use Rattle.open_inputs.specs.declared.Opened.{Opened}
+use Rattle.open_inputs.specs.Opened.{Opened}
 use Rattle.statics_table.specs.Statics.{name_head}
 use Rattle.merge_buffers.specs.Buffers.{ROWS_AT, HOLDERS_AT, USED_AT, PLACE_BUFFER, STEP_BUFFER, NAMES_AT, INDEX_BUFFER, blocks_part, places_part, late_step_part, names_part, BuffersHeld}
 use Rattle.base_buffers.proofs.Parts.{lent, put_back, part_long, part_lent, put_table, kept_part}
@@ -28,9 +27,7 @@ use Rattle.merge_sections.specs.Stages.{StageRead, Movable, Searched}
 use Rattle.merge_verdict.specs.of_symbols_stage.Verdict.{symbol_stages_verdict}
 use Rattle.merge_verdict.specs.of_symbols_stage.declared.Manner.{Manner}
 use Rattle.merge_verdict.specs.of_symbols_stage.declared.Counts.{Counts}
-use Rattle.merge_verdict.specs.of_symbols_stage.declared.SymbolsEnd.{SymbolsEnd}
-use Rattle.merge_verdict.specs.of_symbols_stage.declared.SymbolsEnd.TheVariants.{Numbered, Refused as Unnumbered}
-use Rattle.merge_verdict.specs.of_symbols_stage.End.{end_verdict, SymbolsHeld, StageEnd}
+use Rattle.merge_verdict.specs.of_symbols_stage.End.{Numbered, SymbolsEnd, end_verdict, SymbolsHeld, StageEnd}
 use Rattle.merge_verdict.specs.of_carry_entries.Carried.{carry_verdict}
 use Rattle.write_merged.specs.of_carry_stage.declared.Carry.{Carry}
 use Rattle.write_merged.specs.of_carry_stage.Tables.{HOMES_AT}
@@ -67,7 +64,7 @@ module _ (from to : ℕ) (index : List ℕ) (starts : from ≡ NAMES_AT) (ends :
 -- ---- the late step
 
 -- its table stands at the start of the buffer of steps
-pub late_put : (C B : List ℕ) (s : Stage) (lines places : List ℕ) (from to : ℕ) (steps part : List ℕ) (r : Finding) → lines ≡ places_part places → from ≡ 0 → to ≡ USED_AT
+pub late_put : (C B : List ℕ) (s : Stage) (lines places : List ℕ) (from to : ℕ) (steps part : List ℕ) (r : Option ℕ) → lines ≡ places_part places → from ≡ 0 → to ≡ USED_AT
     → STEP_BUFFER ≤ length steps → length part ≡ length (lent from to steps) → Searched C B s (places_in lines (line_count B)) r part
     → Searched C B s (held_places B places) r (late_step_part (put_back from to steps part))
 late_put C B s lines places from to steps part r p starts ends room same w =
@@ -115,7 +112,7 @@ module _ (C A B path : List ℕ) (s : Stage) (w : Manner) (r : SymbolsEnd) (tabl
     ended : end_verdict r ≡ symbol_stages_verdict s.inputs.order C A (held_places B places) B w.mode (length (name_head w.mode path))
     ended = x.verdict ∙ ap (symbol_stages_verdict s.inputs.order C A (held_places B places) B w.mode) p.head
 
-    pub symbols_refused : (n o q : ℕ) → r ≡ Unnumbered n o q → refused n o q ≡ symbols_answer s.inputs.order C A (held_places B places) B path flag w.mode room
+    pub symbols_refused : (n o q : ℕ) → r ≡ Refused n o q → refused n o q ≡ symbols_answer s.inputs.order C A (held_places B places) B path flag w.mode room
     symbols_refused n o q e = answer_symbols s.inputs.order C A (held_places B places) B path flag w.mode room r ended n o q e
 
     pub symbols_numbered : (n : Counts) → r ≡ Numbered n

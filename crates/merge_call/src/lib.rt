@@ -18,14 +18,12 @@ ghost use Rattle.merge_verdict.specs.Verdict.{is_path_byte, is_path, merge_bound
 ghost use Rattle.merge_call.specs.Path.{PathHeld};
 ghost use Rattle.merge_call.specs.Merged.{Merged};
 
-use base_answers::{Outcome, Verdict};
-use base_scope::Finding;
+use base_answers::{Outcome, Refusal};
+use carry_clash::late_lookups::late_length::LateStep;
 use merge_inputs::Inputs;
-use merge_line_up::LinedUp;
 use merge_sections::Stage;
 use merge_verdict::symbols_stage;
-use merge_verdict::symbols_stage::{Counts, Manner, SymbolsEnd};
-use open_inputs::Opened;
+use merge_verdict::symbols_stage::{Counts, Manner};
 use write_merged::carry_stage;
 use write_merged::write_planned::Writing;
 
@@ -44,11 +42,8 @@ fn is_path(path: &[u8]) -> bool
     if n > base_scope::PATH_LIMIT {
         return false;
     }
-    let mut k: usize = 0;
-    while k < n {
-        if is_path_byte(path[k]) {
-            k += 1;
-        } else {
+    for x in path {
+        if !is_path_byte(*x) {
             return false;
         }
     }
@@ -122,7 +117,7 @@ fn merge_entries<'a>(
         compiled, assembled, file, stage, flag, table, places, index,
     );
     match carry_stage::carry_fault(compiled, assembled, stage, carry, steps, index) {
-        Verdict::Passed => {
+        Ok(()) => {
             let x = Writing {
                 stage,
                 manner,
@@ -134,7 +129,7 @@ fn merge_entries<'a>(
                 out, compiled, assembled, file, path, x, table, places, steps, index,
             )
         }
-        Verdict::Refused(number, object, place) => base_answers::refusal(number, object, place),
+        Err(lost) => base_answers::refused(lost),
     }
 }
 
@@ -161,11 +156,11 @@ fn merge_symbols<'a>(
     match symbols_stage::merge_symbols(
         compiled, assembled, file, stage, manner, table, places, steps, index,
     ) {
-        SymbolsEnd::Numbered(counts) => merge_entries(
+        Ok(counts) => merge_entries(
             compiled, assembled, file, path, stage, flag, manner, counts, out, table, places,
             steps, index,
         ),
-        SymbolsEnd::Refused(number, object, place) => base_answers::refusal(number, object, place),
+        Err(unmerged) => base_answers::refused(unmerged),
     }
 }
 
@@ -177,7 +172,7 @@ fn search_late(
     table: &[u8],
     places: &[u8],
     steps: &mut [u8],
-) -> Finding
+) -> Option<usize>
     requires { Searchable compiled.now file.now stage (blocks_part table.now) (places_part places.now) × (BLOCK_BUFFER ≤ length table.now) × (PLACE_BUFFER ≤ length places.now)
         × (STEP_BUFFER ≤ length steps.old) }
     ensures { Searched compiled.now file.now stage (held_places file.now places.now) result (late_step_part steps.new) }
@@ -209,14 +204,14 @@ fn merge_late<'a>(
     ensures { Answered (late_answer stage.inputs.order compiled.now assembled.now (held_places file.now places.old) file.now path.now flag manner.mode (length out.old)) result out.old out.new }
 {
     match search_late(compiled, file, stage, table, places, steps) {
-        Finding::Clear => merge_symbols(
+        None => merge_symbols(
             compiled, assembled, file, path, stage, flag, manner, out, table, places, steps, index,
         ),
-        Finding::At(block) => base_answers::refusal(
-            base_scope::LATE_STEP,
-            base_answers::COMPILED,
-            block as u64,
-        ),
+        Some(block) => base_answers::refused(Refusal {
+            number: base_scope::LATE_STEP,
+            object: base_answers::COMPILED,
+            place: block as u64,
+        }),
     }
 }
 
@@ -242,7 +237,7 @@ fn line_up(
     table: &[u8],
     places: &[u8],
     index: &[u8],
-) -> LinedUp
+) -> Result<LateStep, Refusal>
     requires { InputsRead compiled.now assembled.now file.now inputs (blocks_part table.now) (places_part places.now) × (BLOCK_BUFFER ≤ length table.now)
         × (PLACE_BUFFER ≤ length places.now) × (INDEX_BUFFER ≤ length index.now) × SymbolIndex inputs.order assembled.now (names_part index.now) }
     ensures { LinesUp inputs.order compiled.now assembled.now (held_places file.now places.now) file.now result }
@@ -274,14 +269,14 @@ fn merge_stages<'a>(
 {
     index_names(assembled, inputs, index);
     match line_up(compiled, assembled, file, inputs, table, places, index) {
-        LinedUp::Lined(step) => {
+        Ok(step) => {
             let stage = Stage { inputs, step };
             merge_late(
                 compiled, assembled, file, path, stage, flag, manner, out, table, places, steps,
                 index,
             )
         }
-        LinedUp::Refused(number, object, place) => base_answers::refusal(number, object, place),
+        Err(unlined) => base_answers::refused(unlined),
     }
 }
 
@@ -313,14 +308,14 @@ fn merge_carried<'a>(
         inputs.assembled,
         flag,
     ) {
-        Finding::Clear => merge_stages(
+        None => merge_stages(
             compiled, assembled, file, path, inputs, flag, manner, out, table, places, steps, index,
         ),
-        Finding::At(section) => base_answers::refusal(
-            carry_clash::CLASH,
-            base_answers::COMPILED,
-            section as u64,
-        ),
+        Some(section) => base_answers::refused(Refusal {
+            number: carry_clash::CLASH,
+            object: base_answers::COMPILED,
+            place: section as u64,
+        }),
     }
 }
 
@@ -331,7 +326,7 @@ fn take_inputs(
     file: &[u8],
     table: &mut [u8],
     places: &mut [u8],
-) -> Opened
+) -> Result<usize, Refusal>
     requires { (length file.now ≤ FILE_LIMIT) × (BLOCK_BUFFER ≤ length table.old) × (PLACE_BUFFER ≤ length places.old) }
     ensures { Took compiled.now assembled.now file.now result (blocks_part table.new) (places_part places.new) }
 {
@@ -391,10 +386,14 @@ fn merge_answer<'a>(
         steps.len(),
         index.len(),
     ) {
-        return base_answers::refusal(base_scope::LIMITS, base_answers::NONE, 0);
+        return base_answers::refused(Refusal {
+            number: base_scope::LIMITS,
+            object: base_answers::NONE,
+            place: 0,
+        });
     }
     match take_inputs(compiled, assembled, file, table, places) {
-        Opened::Blocks(blocks) => {
+        Ok(blocks) => {
             let inputs = merge_inputs::inputs_of(compiled, assembled, blocks);
             let head = statics_names::head_length(mode, path);
             let manner = Manner { mode, head };
@@ -403,7 +402,7 @@ fn merge_answer<'a>(
                 index,
             )
         }
-        Opened::Refused(number, object, place) => base_answers::refusal(number, object, place),
+        Err(unread) => base_answers::refused(unread),
     }
 }
 

@@ -7,8 +7,7 @@ use lib.ListN.{length}
 use Rattle.base_fields.specs.declared.ByteOrder.{ByteOrder}
 use Rattle.base_fields.specs.declared.ByteOrder.TheVariants.{Big}
 use Rattle.base_scope.specs.Limits.{FILE_LIMIT}
-use Rattle.base_answers.specs.declared.Verdict.{Verdict}
-use Rattle.base_answers.specs.declared.Verdict.TheVariants.{Passed, Refused}
+use Rattle.base_answers.specs.Verdicts.{Passed, Refused, Verdict}
 use Rattle.base_answers.specs.Answers.{ASSEMBLED}
 use Rattle.base_answers.proofs.Verdicts.{also_passed, also_refused, also_parts}
 use Rattle.elf_readers.specs.Readers.{order_of}
@@ -24,16 +23,14 @@ use Rattle.blocks_places.specs.Lines.{line_count}
 use Rattle.blocks_places.specs.Places.{Place, places_of}
 use Rattle.blocks_places.specs.Table.{places_in, Laid}
 use Rattle.open_inputs.specs.Open.{check_verdict, open_verdict}
-use Rattle.open_inputs.specs.Opened.{opened_verdict, Opening}
-use Rattle.open_inputs.specs.declared.Opened.{Opened}
-use Rattle.open_inputs.specs.declared.Opened.TheVariants.{Blocks, Refused as Shut}
+use Rattle.open_inputs.specs.Opened.{Blocks, Opened, opened_verdict, Opening}
 use Rattle.open_inputs.proofs.Order.{check_passed, open_passed}
 use Rattle.open_inputs.proofs.Opening.{laid_own}
 use Rattle.merge_inputs.specs.declared.Inputs.{Inputs}
 use Rattle.merge_inputs.specs.Verdict.{inputs_verdict, InputsPassed}
 use Rattle.merge_inputs.specs.Taken.{Took, inputs_of, InputsRead}
 
-shut_not : (n o p m : ℕ) → Shut n o p ≡ Blocks m → ⊥
+shut_not : (n o p m : ℕ) → Refused n o p ≡ Blocks m → ⊥
 shut_not n o p m e = let z : ◌≡◌ {A = ℕ} 0 1 = cc in omega arith
 
 -- what is known where all pass
@@ -47,7 +44,7 @@ inputs_passed C A B e =
 -- ---- the tests, one behind the other
 
 module _ (C A B : List ℕ) (r : Opened) (table places : List ℕ) (g : Opening C B r table places) where
-  pub took_shut : (n o p : ℕ) → r ≡ Shut n o p → Took C A B r table places
+  pub took_shut : (n o p : ℕ) → r ≡ Refused n o p → Took C A B r table places
   unfolding opened_verdict inputs_verdict
   took_shut n o p e =
       let v : open_verdict C B ≡ Refused n o p = sym g.verdict ∙ ap opened_verdict e in record {
@@ -62,7 +59,7 @@ module _ (C A B : List ℕ) (r : Opened) (table places : List ℕ) (g : Opening 
     unfolding opened_verdict
     opened = sym g.verdict ∙ ap opened_verdict e
 
-    pub took_refused : (n o p : ℕ) → v ≡ Refused n o p → Took C A B (Shut n o p) table places
+    pub took_refused : (n o p : ℕ) → v ≡ Refused n o p → Took C A B (Refused n o p) table places
     unfolding opened_verdict inputs_verdict
     took_refused n o p t = record {
       verdict = sym t ∙ is ∙ sym (also_passed (open_verdict C B) _ opened);

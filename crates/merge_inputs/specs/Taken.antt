@@ -8,9 +8,7 @@ use Rattle.blocks_file.specs.Blocks.{block_count}
 use Rattle.blocks_places.specs.Lines.{line_count}
 use Rattle.blocks_places.specs.Places.{places_of}
 use Rattle.blocks_places.specs.Table.{places_in, Laid}
-use Rattle.open_inputs.specs.declared.Opened.{Opened}
-use Rattle.open_inputs.specs.declared.Opened.TheVariants.{Blocks}
-use Rattle.open_inputs.specs.Opened.{opened_verdict}
+use Rattle.open_inputs.specs.Opened.{Blocks, Opened, opened_verdict}
 use Rattle.merge_inputs.specs.declared.Inputs.{Inputs}
 use Rattle.merge_inputs.specs.Verdict.{inputs_verdict}
 

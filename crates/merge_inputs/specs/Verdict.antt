@@ -1,8 +1,7 @@
 -- The inputs of a merge, behind refusal 1 (document 01, "Order"): what opens the inputs, 2 to 9, then A by 2 to 6.
 use Rattle.std.specs.Prelude.{ℕ, List}
-use Rattle.base_answers.specs.declared.Verdict.{Verdict}
 use Rattle.base_answers.specs.Answers.{ASSEMBLED}
-use Rattle.base_answers.specs.Verdicts.{also}
+use Rattle.base_answers.specs.Verdicts.{Verdict, also}
 use Rattle.elf_readers.specs.Readers.{order_of}
 use Rattle.elf_check.specs.Object.{check_of}
 use Rattle.elf_check.specs.Sound.{Sound}

@@ -9,11 +9,10 @@ ghost use Rattle.elf_readers.specs.Readers.{order_of};
 ghost use Rattle.elf_check.specs.Sound.{Sound};
 ghost use Rattle.merge_inputs.specs.Taken.{inputs_of, Took};
 
-use base_answers::Verdict;
+use base_answers::Refusal;
 use base_fields::ByteOrder;
 pub use elf_check;
 use elf_check::View;
-use open_inputs::Opened;
 
 // What is in hand of accepted inputs: the byte order, the views of the compiled and of the assembled object, and the number of blocks.
 #[derive(Clone, Copy)]
@@ -47,16 +46,11 @@ pub fn take_inputs(
     file: &[u8],
     table: &mut [u8],
     places: &mut [u8],
-) -> Opened
+) -> Result<usize, Refusal>
     requires { (length file.now ≤ FILE_LIMIT) × (OPEN_TABLE ≤ length table.old) × (PLACE_TABLE ≤ length places.old) }
     ensures { Took compiled.now assembled.now file.now result (part_at 0 BLOCK_TABLE table.new) places.new }
 {
-    let opened = open_inputs::open(compiled, file, table, places);
-    if let Opened::Blocks(_) = opened {
-        let checked = open_inputs::check_verdict(base_answers::ASSEMBLED, assembled);
-        if let Verdict::Refused(number, object, place) = checked {
-            return Opened::Refused(number, object, place);
-        }
-    }
-    opened
+    let blocks = open_inputs::open(compiled, file, table, places)?;
+    open_inputs::check_verdict(base_answers::ASSEMBLED, assembled)?;
+    Ok(blocks)
 }

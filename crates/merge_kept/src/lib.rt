@@ -26,12 +26,11 @@ fn past_kept(order: ByteOrder, file: &[u8]) -> usize
     requires { Headed order file.now }
     ensures { result ≡ past_last (stays order file.now) (section_count order file.now) }
 {
-    let mut n = elf_readers::section_count(order, file);
-    while n > 0 {
-        if is_kept(order, file, n - 1) {
-            return n;
+    let n = elf_readers::section_count(order, file);
+    for i in (0..n).rev() {
+        if is_kept(order, file, i) {
+            return i + 1;
         }
-        n -= 1;
     }
     0
 }

@@ -1,4 +1,5 @@
 -- The laws of labels: what is read of a label's symbol, and the search for the first line that is mislabelled. Assumes nothing.
+use Rattle.std.specs.Prelude.{None, Some}
 use Prim.Native.Nat.{ℕ, ◌+◌, ◌≤◌, ◌<◌}
 use mathlib.Core.Path.{◌≡◌, refl, sym, ap, ◌∙◌}
 use mathlib.Core.Bool.{true, false, not, ◌&&◌}
@@ -11,7 +12,6 @@ use Rattle.base_lists.proofs.Ranges.{by-test, first_here, first_end}
 use Rattle.base_fields.specs.declared.ByteOrder.{ByteOrder}
 use Rattle.elf_records.specs.declared.symbol.SymbolEntry.{SymbolEntry}
 use Rattle.base_scope.specs.Codes.{LATE_RODATA, line_code, line_block}
-use Rattle.base_scope.specs.declared.Finding.TheVariants.{Clear, At}
 use Rattle.base_scope.specs.Text.{text}
 use Rattle.elf_readers.specs.Readers.{coded_section, coded_contents}
 use Rattle.elf_symbols.specs.Symbols.{symbol_count, symbol, symbol_named}
@@ -64,11 +64,11 @@ module _ (o : ByteOrder) (A : List ℕ) (P : List Place) (B : List ℕ) (j : ℕ
 -- ---- the search
 
 module _ (o : ByteOrder) (A : List ℕ) (P : List Place) (B : List ℕ) (j : ℕ) (e : mislabelled_at o A P B ≡ first (is_mislabelled o A P B) j (line_count B)) where
-  pub fault_here : j < line_count B → is_mislabelled o A P B j ≡ true → At (line_block j) ≡ label_fault o A P B
+  pub fault_here : j < line_count B → is_mislabelled o A P B j ≡ true → Some (line_block j) ≡ label_fault o A P B
   unfolding label_fault
   fault_here h t = rw (e, first_here (is_mislabelled o A P B) j (line_count B) h t, lt-ltb j (line_count B) h)
 
-  pub fault_none : line_count B ≤ j → Clear ≡ label_fault o A P B
+  pub fault_none : line_count B ≤ j → None ≡ label_fault o A P B
   unfolding label_fault
   fault_none h = rw (e, first_end (is_mislabelled o A P B) j (line_count B) h, le-ltb j (line_count B) h)
 

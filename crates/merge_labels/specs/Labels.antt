@@ -1,11 +1,9 @@
 -- Refusals 12 and 13 (document 01's table): the start and end labels of a block's spans, and of the late span, which the draft wrote, as symbols of the assembled object A.
 -- P are the places of the lines of the block file B.
-use Rattle.std.specs.Prelude.{ℕ, ◌+◌, Bool, true, false, not, ◌&&◌, List, ◌++◌, length, eqb, ltb, leb}
+use Rattle.std.specs.Prelude.{ℕ, ◌+◌, Bool, true, false, not, ◌&&◌, List, ◌++◌, length, eqb, ltb, leb, None, Some, Option}
 use Rattle.base_lists.specs.Ranges.{first}
 use Rattle.base_fields.specs.declared.ByteOrder.{ByteOrder}
 use Rattle.base_scope.specs.Codes.{LATE_RODATA, line_code, line_block}
-use Rattle.base_scope.specs.declared.Finding.{Finding}
-use Rattle.base_scope.specs.declared.Finding.TheVariants.{Clear, At}
 use Rattle.base_scope.specs.Refusals.{pick_finding}
 use Rattle.base_scope.specs.Text.{text}
 use Rattle.elf_readers.specs.Readers.{coded_section, coded_contents}
@@ -44,19 +42,19 @@ module _ (o : ByteOrder) (A : List ℕ) (P : List Place) (B : List ℕ) where
   mislabelled_at = first is_mislabelled 0 (line_count B)
 
   -- refusal 12: its block is the lowest
-  unfoldable pub label_fault : Finding
-  label_fault = pick_finding (ltb mislabelled_at (line_count B)) (At (line_block mislabelled_at)) Clear
+  unfoldable pub label_fault : Option ℕ
+  label_fault = pick_finding (ltb mislabelled_at (line_count B)) (Some (line_block mislabelled_at)) None
 
 -- the labels that the draft writes around the late lines: `_start` and `_end`
 unfoldable pub late_label : List ℕ → List ℕ
 late_label suffix = text "_asmpp_late_rodata" ++ suffix
 
 module _ (o : ByteOrder) (A : List ℕ) where
-  -- where the late span starts in A's.late_rodata; 0 where there is no such label
+  -- where the late span starts in A's .late_rodata; 0 where there is no such label
   unfoldable pub late_start : ℕ
   late_start = (label_of o A (late_label (text "_start"))).value
 
-  -- refusal 13 asks this of a late step of n bytes: both late labels stand in A's.late_rodata, n apart, and the end lies inside it
+  -- refusal 13 asks this of a late step of n bytes: both late labels stand in A's .late_rodata, n apart, and the end lies inside it
   unfoldable pub late_lined : ℕ → Bool
   late_lined n =
       is_at o A (late_label (text "_start")) (coded_section o A LATE_RODATA) late_start

@@ -14,7 +14,6 @@ ghost use Rattle.blocks_places.specs.Table.{places_in, Laid};
 ghost use Rattle.merge_labels.specs.Labels.{label_of, is_at, is_lined, is_mislabelled, label_fault, late_label, late_lined};
 
 use base_fields::ByteOrder;
-use base_scope::Finding;
 use elf_check::View;
 use elf_symbols::SymbolTable;
 
@@ -154,19 +153,17 @@ pub fn label_fault(
     table: &[u8],
     places: &[u8],
     blocks: usize,
-) -> Finding
+) -> Option<usize>
     requires { Viewed order assembled.now view × Laid (places_in places.now (line_count file.now)) file.now table.now places.now
         × (blocks ≡ block_count file.now) × SymbolIndex order assembled.now index.now }
     ensures { result ≡ label_fault order assembled.now (places_in places.now (line_count file.now)) file.now }
 {
-    let mut j: usize = 0;
-    while j < base_scope::LINES * blocks {
+    for j in 0..base_scope::LINES * blocks {
         if is_mislabelled(order, assembled, view, index, file, table, places, j) {
-            return Finding::At(base_scope::line_block(j));
+            return Some(base_scope::line_block(j));
         }
-        j += 1;
     }
-    Finding::Clear
+    None
 }
 
 // Refusal 13 of a late step: whether the late labels stand in .late_rodata, `size` bytes apart, inside it; `start` is the first of them.

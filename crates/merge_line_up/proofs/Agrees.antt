@@ -1,4 +1,5 @@
 -- What refusals 11 to 13 leave true, derived from their definitions. Assumes nothing.
+use Rattle.std.specs.Prelude.{None, Some}
 use Prim.Native.Nat.{ℕ, ◌+◌, ◌≤◌, ◌<◌}
 use mathlib.Core.Path.{◌≡◌, refl, sym, ◌∙◌}
 use mathlib.Core.Bool.{Bool, true, false}
@@ -10,11 +11,10 @@ use borrow.Author.Tests.{lt-ltb, leb-true, not-false, ltb-true}
 use Rattle.base_lists.proofs.Ranges.{by-lt, both, and_parts, first_high, none_first}
 use Rattle.base_fields.specs.declared.ByteOrder.{ByteOrder}
 use Rattle.base_scope.specs.Codes.{LATE_RODATA, line_block}
-use Rattle.base_scope.specs.declared.Finding.TheVariants.{Clear, At}
 use Rattle.base_scope.specs.Refusals.{BLOCK_LABELS, LATE_LABELS}
 use Rattle.base_scope.specs.Text.{text}
 use Rattle.base_scope.proofs.Refusals.{expect_clear}
-use Rattle.base_answers.specs.declared.Verdict.TheVariants.{Passed}
+use Rattle.base_answers.specs.Verdicts.{Passed}
 use Rattle.base_answers.specs.Answers.{ASSEMBLED}
 use Rattle.base_answers.proofs.Verdicts.{also_parts, finding_passed}
 use Rattle.elf_readers.specs.Readers.{coded_section, coded_contents}
@@ -35,7 +35,7 @@ module _ (o : ByteOrder) (C A : List ℕ) (P : List Place) (B : List ℕ) (e : l
   unfolding line_up_verdict
   first = also_parts _ _ e
 
-  labels_clear : (label_fault o A P B ≡ Clear) × (late_label_fault o A (late_length P B) ≡ Clear)
+  labels_clear : (label_fault o A P B ≡ None) × (late_label_fault o A (late_length P B) ≡ None)
   unfolding labels_verdict
   labels_clear =
       let r = also_parts _ _ first.1 in
@@ -50,11 +50,11 @@ module _ (o : ByteOrder) (C A : List ℕ) (P : List Place) (B : List ℕ) (e : l
   unfolding label_fault
   none_mislabelled = by-lt (mislabelled_at o A P B) (line_count B)
       (λ h.
-      let q : At (line_block (mislabelled_at o A P B)) ≡ Clear = rw (lt-ltb (mislabelled_at o A P B) (line_count B) h) at labels_clear.0 in
+      let q : Some (line_block (mislabelled_at o A P B)) ≡ None = rw (lt-ltb (mislabelled_at o A P B) (line_count B) h) at labels_clear.0 in
       both {b = true} refl (apart _ q))
       (λ h. omega (arith, mislabelled_high))
     where
-      apart : (i : ℕ) → At i ≡ Clear → true ≡ false
+      apart : (i : ℕ) → Some i ≡ None → true ≡ false
       apart i e = cc
 
   labels_stand : (j : ℕ) → j < line_count B → taken P j ≡ true → is_lined o A P B j ≡ true
@@ -67,7 +67,7 @@ module _ (o : ByteOrder) (C A : List ℕ) (P : List Place) (B : List ℕ) (e : l
   unfolding late_label_fault
   late_stand t =
       let s : ltb 0 (late_length P B) ≡ true = sym (step_length P B) ∙ t in
-      (expect_clear (late_lined o A (late_length P B)) 0 Clear (rw s at labels_clear.1)).0
+      (expect_clear (late_lined o A (late_length P B)) 0 None (rw s at labels_clear.1)).0
 
   late_held : has_late_step P B ≡ true → late_start o A + late_length P B ≤ length (coded_contents o A LATE_RODATA)
   unfolding late_lined

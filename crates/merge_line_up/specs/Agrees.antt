@@ -15,6 +15,6 @@ pub record Agrees (o : ByteOrder) (C A : List ℕ) (P : List Place) (B : List �
   pub complete : Complete o C A P B
   -- 12: every span has its labels in A
   pub labels : (j : ℕ) → j < line_count B → taken P j ≡ true → is_lined o A P B j ≡ true
-  -- 13: the late labels stand in A's.late_rodata, and the late span lies inside it
+  -- 13: the late labels stand in A's .late_rodata, and the late span lies inside it
   pub late_labels : has_late_step P B ≡ true → late_lined o A (late_length P B) ≡ true
   pub late_inside : has_late_step P B ≡ true → late_start o A + late_length P B ≤ length (coded_contents o A LATE_RODATA)

@@ -1,4 +1,5 @@
 -- What refusal 11 leaves true, derived from its definition: no code of C and none of A is at fault, so no cause of any code holds. Assumes nothing.
+use Rattle.std.specs.Prelude.{None}
 use Prim.Native.Nat.{ℕ, ◌+◌, ◌%◌, ◌≤◌, ◌<◌}
 use mathlib.Core.Path.{◌≡◌, refl, sym, ap, ◌∙◌}
 use mathlib.Core.Bool.{Bool, true, false, not, ◌&&◌, ◌||◌}
@@ -11,13 +12,11 @@ use Rattle.base_lists.specs.Ranges.{first, count}
 use Rattle.base_lists.proofs.Ranges.{by-test, both, by-lt, and_parts, first_high, none_first, or_parts, no_some}
 use Rattle.base_fields.specs.declared.ByteOrder.{ByteOrder}
 use Rattle.base_scope.specs.Codes.{TEXT, LATE_RODATA, REGINFO, CODES, LINES, holds_bytes, leaves_out, is_late_target, target_code, line_code}
-use Rattle.base_scope.specs.declared.Finding.TheVariants.{Clear}
 use Rattle.base_scope.specs.Refusals.{MISSING_SECTION}
 use Rattle.base_scope.proofs.Codes.{past_holds, past_leaves, past_late}
 use Rattle.base_scope.proofs.Refusals.{found_clear}
-use Rattle.base_answers.specs.declared.Verdict.TheVariants.{Passed}
 use Rattle.base_answers.specs.Answers.{COMPILED, ASSEMBLED}
-use Rattle.base_answers.specs.Verdicts.{finding_verdict}
+use Rattle.base_answers.specs.Verdicts.{Passed, finding_verdict}
 use Rattle.base_answers.proofs.Verdicts.{also_parts, finding_passed}
 use Rattle.elf_readers.specs.Readers.{has_code, coded_contents}
 use Rattle.blocks_places.specs.Lines.{line_count, span_size}
@@ -46,7 +45,7 @@ by_column column none c t = by-lt c 1
 
 -- ---- no code is at fault
 
-pub lowest_clear : (p : ℕ → Bool) → lowest_code p ≡ Clear → (c : ℕ) → 1 ≤ c → c ≤ CODES → p c ≡ false
+pub lowest_clear : (p : ℕ → Bool) → lowest_code p ≡ None → (c : ℕ) → 1 ≤ c → c ≤ CODES → p c ≡ false
 unfolding lowest_code
 lowest_clear p e c l h =
     let g : CODES + 1 ≤ first p TEXT (CODES + 1) = found_clear (CODES + 1) (first p TEXT (CODES + 1)) e in
@@ -110,7 +109,7 @@ unfolding target_code
 target_range a l u = by-test (eqb a LATE_RODATA) (λ t. rw t (omega arith, omega arith)) (λ f. rw f (l, omega arith))
 
 module _ (o : ByteOrder) (C A : List ℕ) (P : List Place) (B : List ℕ) (e : missing_verdict o C A P B ≡ Passed) where
-  clear : (lowest_code (missing_c o C A P B) ≡ Clear) × (lowest_code (missing_a o C A P B) ≡ Clear)
+  clear : (lowest_code (missing_c o C A P B) ≡ None) × (lowest_code (missing_a o C A P B) ≡ None)
   unfolding missing_verdict
   clear =
       let r = also_parts _ _ e in

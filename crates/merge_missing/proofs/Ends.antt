@@ -1,5 +1,6 @@
 -- The laws of refusal 11 by ends: the end of a code's last span tells whether there is a span and whether one passes an offset, because spans are not empty and ascend;
 -- and what each way through a test says. Assumes nothing.
+use Rattle.std.specs.Prelude.{None, Some, Option}
 use Prim.Native.Nat.{ℕ, ◌+◌, ◌-◌, ◌%◌, ◌≤◌, ◌<◌}
 use mathlib.Core.Path.{◌≡◌, refl, sym, ap, ◌∙◌}
 use mathlib.Core.Bool.{Bool, true, false, not, ◌&&◌, ◌||◌}
@@ -12,13 +13,9 @@ use Rattle.base_lists.specs.Ranges.{first}
 use Rattle.base_lists.proofs.Ranges.{by-test, by-lt, first_here, first_end, first_ext, some_no, some_yes}
 use Rattle.base_fields.specs.declared.ByteOrder.{ByteOrder}
 use Rattle.base_scope.specs.Codes.{TEXT, LATE_RODATA, REGINFO, CODES, holds_bytes, leaves_out, is_late_target, target_code, line_code}
-use Rattle.base_scope.specs.declared.Finding.{Finding}
-use Rattle.base_scope.specs.declared.Finding.TheVariants.{Clear, At}
 use Rattle.base_scope.specs.Refusals.{MISSING_SECTION, found_below}
-use Rattle.base_answers.specs.declared.Verdict.{Verdict}
-use Rattle.base_answers.specs.declared.Verdict.TheVariants.{Passed, Refused}
 use Rattle.base_answers.specs.Answers.{COMPILED, ASSEMBLED}
-use Rattle.base_answers.specs.Verdicts.{finding_verdict}
+use Rattle.base_answers.specs.Verdicts.{Passed, Refused, Verdict, finding_verdict}
 use Rattle.base_answers.proofs.Verdicts.{also_passed, also_refused}
 use Rattle.elf_readers.specs.Readers.{has_code, coded_contents}
 use Rattle.elf_check.specs.declared.View.{View}
@@ -206,20 +203,20 @@ module _ (P : List Place) (B : List ℕ) (f : Fitting P B) (end : ℕ) (late : B
 
 -- ---- the lowest code
 
-found_at : (n c i : ℕ) → c < n → i ≡ c → At c ≡ found_below n i
+found_at : (n c i : ℕ) → c < n → i ≡ c → Some c ≡ found_below n i
 unfolding found_below
 found_at n c i h e = rw (e, lt-ltb c n h)
 
-found_none : (n i : ℕ) → n ≤ i → Clear ≡ found_below n i
+found_none : (n i : ℕ) → n ≤ i → None ≡ found_below n i
 unfolding found_below
 found_none n i h = rw (le-ltb i n h)
 
 module _ (p : ℕ → Bool) (c : ℕ) (h : first p TEXT (CODES + 1) ≡ first p c (CODES + 1)) where
-  pub lowest_here : c ≤ CODES → p c ≡ true → At c ≡ lowest_code p
+  pub lowest_here : c ≤ CODES → p c ≡ true → Some c ≡ lowest_code p
   unfolding lowest_code
   lowest_here l t = found_at (CODES + 1) c _ (omega arith) (h ∙ first_here p c (CODES + 1) (omega arith) t)
 
-  pub lowest_none : CODES < c → Clear ≡ lowest_code p
+  pub lowest_none : CODES < c → None ≡ lowest_code p
   unfolding lowest_code
   lowest_none l = found_none (CODES + 1) _ (omega (arith, h, first_end p c (CODES + 1) (omega arith)))
 
@@ -237,7 +234,7 @@ missing_a_lem o C A P B f v is ends e late r = lowest_ext _ _ (λ c l u.
 
 -- ---- the answer
 
-module _ (o : ByteOrder) (C A : List ℕ) (P : List Place) (B : List ℕ) (f : Finding) (is : f ≡ lowest_code (missing_c o C A P B)) (v : Verdict)
+module _ (o : ByteOrder) (C A : List ℕ) (P : List Place) (B : List ℕ) (f : Option ℕ) (is : f ≡ lowest_code (missing_c o C A P B)) (v : Verdict)
     (so : v ≡ finding_verdict MISSING_SECTION COMPILED f) where
   first_is : v ≡ finding_verdict MISSING_SECTION COMPILED (lowest_code (missing_c o C A P B))
   first_is = so ∙ ap (finding_verdict MISSING_SECTION COMPILED) is
@@ -246,6 +243,6 @@ module _ (o : ByteOrder) (C A : List ℕ) (P : List Place) (B : List ℕ) (f : F
   unfolding missing_verdict
   verdict_c n x p e = e ∙ sym (also_refused _ _ n x p (sym first_is ∙ e))
 
-  pub verdict_a : v ≡ Passed → (g : Finding) → g ≡ lowest_code (missing_a o C A P B) → (w : Verdict) → w ≡ finding_verdict MISSING_SECTION ASSEMBLED g → w ≡ missing_verdict o C A P B
+  pub verdict_a : v ≡ Passed → (g : Option ℕ) → g ≡ lowest_code (missing_a o C A P B) → (w : Verdict) → w ≡ finding_verdict MISSING_SECTION ASSEMBLED g → w ≡ missing_verdict o C A P B
   unfolding missing_verdict
   verdict_a e g at w q = q ∙ ap (finding_verdict MISSING_SECTION ASSEMBLED) at ∙ sym (also_passed _ _ (sym first_is ∙ e))

@@ -1,15 +1,13 @@
 -- Refusal 11 (document 01's table): what C or A lacks for the blocks, for the late step, for .reginfo and for A's sections that hold bytes; a span that passes C's or A's
 -- end; a place or a size that is no multiple of 4. The place is the section code (the crate base_scope, specs/Codes.antt). C comes before A, then the lowest code. P are
 -- the places of the lines of the block file B.
-use Rattle.std.specs.Prelude.{ℕ, ◌+◌, ◌%◌, Bool, not, ◌&&◌, ◌||◌, List, length, eqb, ltb}
+use Rattle.std.specs.Prelude.{ℕ, ◌+◌, ◌%◌, Bool, not, ◌&&◌, ◌||◌, List, length, eqb, ltb, Option}
 use Rattle.base_lists.specs.Ranges.{first}
 use Rattle.base_fields.specs.declared.ByteOrder.{ByteOrder}
 use Rattle.base_scope.specs.Codes.{TEXT, LATE_RODATA, REGINFO, CODES, holds_bytes, leaves_out, is_late_target, target_code}
-use Rattle.base_scope.specs.declared.Finding.{Finding}
 use Rattle.base_scope.specs.Refusals.{MISSING_SECTION, found_below}
-use Rattle.base_answers.specs.declared.Verdict.{Verdict}
 use Rattle.base_answers.specs.Answers.{COMPILED, ASSEMBLED}
-use Rattle.base_answers.specs.Verdicts.{also, finding_verdict}
+use Rattle.base_answers.specs.Verdicts.{Verdict, also, finding_verdict}
 use Rattle.elf_readers.specs.Readers.{has_code, coded_contents}
 use Rattle.blocks_places.specs.Lines.{line_count, span_size}
 use Rattle.blocks_places.specs.Places.{Place, place}
@@ -62,7 +60,7 @@ module _ (o : ByteOrder) (C A : List ℕ) (P : List Place) (B : List ℕ) where
   missing_a c = is_lacking P B o A (wanted_a c) c
 
 -- the lowest code at fault
-unfoldable pub lowest_code : (ℕ → Bool) → Finding
+unfoldable pub lowest_code : (ℕ → Bool) → Option ℕ
 lowest_code p = found_below (CODES + 1) (first p TEXT (CODES + 1))
 
 unfoldable pub missing_verdict : ByteOrder → List ℕ → List ℕ → List Place → List ℕ → Verdict

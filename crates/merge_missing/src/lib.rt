@@ -14,9 +14,8 @@ ghost use Rattle.merge_inputs.specs.Taken.{InputsRead};
 ghost use Rattle.merge_missing.specs.Missing.{goes_to, is_target, is_uneven, has_uneven, missing_c, lowest_code, missing_verdict};
 ghost use Rattle.merge_missing.specs.Ends.{lacking_by, asked_c, asked_a, AtCode, missing_by};
 
-use base_answers::Verdict;
+use base_answers::Refusal;
 use base_fields::ByteOrder;
-use base_scope::Finding;
 use elf_check::View;
 pub use late_length;
 pub use merge_inputs;
@@ -36,12 +35,10 @@ fn is_target(order: ByteOrder, assembled: &[u8], view: View, target: u32) -> boo
     requires { Viewed order assembled.now view }
     ensures { result ≡ is_target order assembled.now target }
 {
-    let mut code = base_scope::TEXT;
-    while code <= base_scope::LATE_RODATA {
+    for code in base_scope::TEXT..=base_scope::LATE_RODATA {
         if goes_to(order, assembled, view, target, code) {
             return true;
         }
-        code += 1;
     }
     false
 }
@@ -127,12 +124,10 @@ fn has_uneven(file: &[u8], table: &[u8], places: &[u8], blocks: usize, code: u32
     ensures { result ≡ has_uneven (places_in places.now (line_count file.now)) file.now code }
 {
     if base_scope::leaves_out(code) {
-        let mut j: usize = 0;
-        while j < base_scope::LINES * blocks {
+        for j in 0..base_scope::LINES * blocks {
             if is_uneven(file, table, places, code, j) {
                 return true;
             }
-            j += 1;
         }
     }
     false
@@ -175,22 +170,20 @@ fn missing_in_c(
     inputs: Inputs,
     ends: [usize; base_scope::CODE_INDICES],
     late: bool,
-) -> Finding
+) -> Option<usize>
     requires { InputsRead compiled.now assembled.now file.now inputs table.now places.now
         × (ends ≡ span_ends (places_in places.now (line_count file.now)) file.now) × (late ≡ has_late_step (places_in places.now (line_count file.now)) file.now) }
     ensures { result ≡ lowest_code (missing_c inputs.order compiled.now assembled.now (places_in places.now (line_count file.now)) file.now) }
 {
-    let mut code = base_scope::TEXT;
-    while code <= base_scope::CODES {
+    for code in base_scope::TEXT..=base_scope::CODES {
         let end = ends[code as usize];
         if is_missing_c(
             compiled, assembled, file, table, places, inputs, end, late, code,
         ) {
-            return Finding::At(code as usize);
+            return Some(code as usize);
         }
-        code += 1;
     }
-    Finding::Clear
+    None
 }
 
 // The lowest code at fault in the assembled object.
@@ -199,23 +192,21 @@ fn missing_in_a(
     inputs: Inputs,
     ends: [usize; base_scope::CODE_INDICES],
     late: bool,
-) -> Finding
+) -> Option<usize>
     requires { Viewed inputs.order assembled.now inputs.assembled }
     ensures { result ≡ lowest_code (missing_by inputs.order assembled.now inputs.compiled ends late) }
 {
     let order = inputs.order;
     let target = inputs.compiled;
     let source = inputs.assembled;
-    let mut code = base_scope::TEXT;
-    while code <= base_scope::CODES {
+    for code in base_scope::TEXT..=base_scope::CODES {
         let end = ends[code as usize];
         let asked = is_asked_a(target, end, late, code);
         if is_lacking(order, assembled, source, end, asked, code) {
-            return Finding::At(code as usize);
+            return Some(code as usize);
         }
-        code += 1;
     }
-    Finding::Clear
+    None
 }
 
 // Refusal 11: the compiled object's lowest code at fault, else the assembled object's.
@@ -228,24 +219,13 @@ pub fn missing_verdict(
     inputs: Inputs,
     ends: [usize; base_scope::CODE_INDICES],
     late: bool,
-) -> Verdict
+) -> Result<(), Refusal>
     requires { InputsRead compiled.now assembled.now file.now inputs table.now places.now
         × (ends ≡ span_ends (places_in places.now (line_count file.now)) file.now) × (late ≡ has_late_step (places_in places.now (line_count file.now)) file.now) }
     ensures { result ≡ missing_verdict inputs.order compiled.now assembled.now (places_in places.now (line_count file.now)) file.now }
 {
     let c = missing_in_c(compiled, assembled, file, table, places, inputs, ends, late);
-    let compiled_verdict = base_answers::finding_verdict(
-        base_scope::MISSING_SECTION,
-        base_answers::COMPILED,
-        c,
-    );
-    if let Verdict::Passed = compiled_verdict {
-        let a = missing_in_a(assembled, inputs, ends, late);
-        return base_answers::finding_verdict(
-            base_scope::MISSING_SECTION,
-            base_answers::ASSEMBLED,
-            a,
-        );
-    }
-    compiled_verdict
+    base_answers::finding_verdict(base_scope::MISSING_SECTION, base_answers::COMPILED, c)?;
+    let a = missing_in_a(assembled, inputs, ends, late);
+    base_answers::finding_verdict(base_scope::MISSING_SECTION, base_answers::ASSEMBLED, a)
 }

@@ -1,4 +1,5 @@
 -- What 11 to 13 leave is what the late step, block copying and the late moves ask for. Assumes nothing.
+use Rattle.std.specs.Prelude.{None, Option}
 use mathlib.Core.Path.{◌≡◌, refl, sym, ap, ◌∙◌}
 use mathlib.Core.Bool.{true, false}
 use mathlib.Core.List.{List}
@@ -11,8 +12,6 @@ use Rattle.base_lists.proofs.Ranges.{both, by-lt}
 use Rattle.base_fields.specs.declared.ByteOrder.{ByteOrder}
 use Rattle.base_scope.specs.Codes.{LATE_RODATA, LATE_TARGET, REGINFO, CODES, holds_bytes, is_late_target, section_codes}
 use Rattle.base_scope.specs.Limits.{FILE_LIMIT, LATE_TABLE}
-use Rattle.base_scope.specs.declared.Finding.{Finding}
-use Rattle.base_scope.specs.declared.Finding.TheVariants.{Clear}
 use Rattle.base_scope.proofs.Codes.{past_holds, late_target_lem}
 use Rattle.elf_readers.specs.Readers.{coded_contents}
 use Rattle.elf_readers.proofs.Readers.{coded_short}
@@ -172,11 +171,11 @@ registers_length o C A = length_joined (coded_contents o C REGINFO) (coded_conte
 -- ---- the search
 
 module _ (C B : List ℕ) (s : Stage) (table places : List ℕ) (w : Searchable C B s table places) where
-  pub found_still : s.step.runs ≡ false → (late : List ℕ) → Searched C B s (places_in places (line_count B)) Clear late
+  pub found_still : s.step.runs ≡ false → (late : List ℕ) → Searched C B s (places_in places (line_count B)) None late
   unfolding step_finding
   found_still f late = record { answer = rw (← w.runs, f); moves = λ q t. both t f }
 
-  pub found_step : s.step.runs ≡ true → (R : List ℕ) → R ≡ coded_contents s.inputs.order C LATE_TARGET → (r : Finding) (before late : List ℕ) → LATE_TABLE ≤ length before
+  pub found_step : s.step.runs ≡ true → (R : List ℕ) → R ≡ coded_contents s.inputs.order C LATE_TARGET → (r : Option ℕ) (before late : List ℕ) → LATE_TABLE ≤ length before
       → Walk s.inputs.order (places_in places (line_count B)) B R s.step.start r before late → Searched C B s (places_in places (line_count B)) r late
   unfolding step_finding
   found_step t R e r before late room v = record {

@@ -1,8 +1,6 @@
 -- Of the code, not of document 01: what is in hand once 11 to 13 have passed, and what the late step leaves.
-use Rattle.std.specs.Prelude.{ℕ, ◌≡◌, true, List}
+use Rattle.std.specs.Prelude.{ℕ, ◌≡◌, true, List, None, Option}
 use Rattle.base_scope.specs.Codes.{LATE_TARGET}
-use Rattle.base_scope.specs.declared.Finding.{Finding}
-use Rattle.base_scope.specs.declared.Finding.TheVariants.{Clear}
 use Rattle.elf_readers.specs.Readers.{coded_contents}
 use Rattle.elf_check.specs.View.{Viewed}
 use Rattle.blocks_places.specs.Lines.{line_count}
@@ -33,6 +31,6 @@ abbrev pub Movable : List ℕ → List ℕ → Stage → List Place → List ℕ
 Movable C B s P late = s.step.runs ≡ true → Moves s.inputs.order P B (coded_contents s.inputs.order C LATE_TARGET) s.step.start late
 
 -- what the late step finds in C's own bytes, and that its moves are in hand where it finds no fault
-pub record Searched (C B : List ℕ) (s : Stage) (P : List Place) (r : Finding) (late : List ℕ) : Type 0 where
+pub record Searched (C B : List ℕ) (s : Stage) (P : List Place) (r : Option ℕ) (late : List ℕ) : Type 0 where
   pub answer : r ≡ step_finding s.inputs.order P B (coded_contents s.inputs.order C LATE_TARGET)
-  pub moves : r ≡ Clear → Movable C B s P late
+  pub moves : r ≡ None → Movable C B s P late

@@ -18,7 +18,6 @@ ghost use Rattle.merge_line_up.specs.of_merge_missing.Complete.{Complete};
 ghost use Rattle.merge_sections.specs.Sections.{result_section, register_bytes};
 ghost use Rattle.merge_sections.specs.Stages.{StageRead, Searchable, Searched, Movable};
 
-use base_scope::Finding;
 use late_finals::late_length::LateStep;
 use late_laws::late_walk;
 pub use merge_line_up::merge_inputs;
@@ -39,7 +38,7 @@ pub fn late_fault(
     places: &[u8],
     stage: Stage,
     late: &mut [u8],
-) -> Finding
+) -> Option<usize>
     requires { Searchable compiled.now file.now stage table.now places.now × (LATE_TABLE ≤ length late.old) }
     ensures { Searched compiled.now file.now stage (places_in places.now (line_count file.now)) result late.new }
 {
@@ -52,7 +51,7 @@ pub fn late_fault(
         let blocks = inputs.blocks;
         return late_walk::place_late(order, file, table, places, blocks, target, step, late);
     }
-    Finding::Clear
+    None
 }
 
 // Writes C's section of a code after block copying at `at`, and answers where it ends.

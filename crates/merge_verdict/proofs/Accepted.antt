@@ -1,4 +1,5 @@
 -- The verdict of the merge in each way through its tests, and what an accepted answer says of its inputs. Assumes nothing.
+use Rattle.std.specs.Prelude.{None, Some, Option}
 use mathlib.Core.Path.{◌≡◌, sym, ap, ◌∙◌}
 use mathlib.Core.Bool.{Bool, true, false, not, ◌||◌}
 use mathlib.Core.List.{List, []}
@@ -10,14 +11,10 @@ use Rattle.base_lists.proofs.Ranges.{first_high}
 use Rattle.base_fields.specs.declared.ByteOrder.{ByteOrder}
 use Rattle.base_scope.specs.Codes.{LATE_TARGET}
 use Rattle.base_scope.specs.Limits.{over_limits}
-use Rattle.base_scope.specs.declared.Finding.{Finding}
-use Rattle.base_scope.specs.declared.Finding.TheVariants.{Clear, At}
 use Rattle.base_scope.specs.Refusals.{LIMITS, LATE_STEP, STATICS}
 use Rattle.base_scope.proofs.Refusals.{found_clear}
-use Rattle.base_answers.specs.declared.Verdict.{Verdict}
-use Rattle.base_answers.specs.declared.Verdict.TheVariants.{Passed, Refused}
 use Rattle.base_answers.specs.Answers.{accepted, refused, NONE, COMPILED}
-use Rattle.base_answers.specs.Verdicts.{also, if_passed, finding_verdict}
+use Rattle.base_answers.specs.Verdicts.{Passed, Refused, Verdict, also, if_passed, finding_verdict}
 use Rattle.base_answers.proofs.Verdicts.{also_passed, also_refused, also_parts, if_passed_lem, if_refused, if_accepted, room_accepted, limit_kept, limit_broken, limit_passed, finding_clear, finding_at, finding_passed}
 use Rattle.elf_readers.specs.Readers.{order_of, coded_contents}
 use Rattle.blocks_file.specs.Blocks.{block_count}
@@ -29,26 +26,20 @@ use Rattle.blocks_spans.specs.Copied.{copied}
 use Rattle.late_length.specs.declared.LateStep.{LateStep}
 use Rattle.late_length.specs.Late.{has_late_step}
 use Rattle.late_moves.specs.Moves.{items, is_move_fault, late_step_fault}
-use Rattle.open_inputs.specs.declared.Opened.{Opened}
-use Rattle.open_inputs.specs.declared.Opened.TheVariants.{Blocks, Refused as Shut}
-use Rattle.open_inputs.specs.Opened.{opened_verdict}
+use Rattle.open_inputs.specs.Opened.{Blocks, Opened, opened_verdict}
 use Rattle.statics_table.specs.Statics.{name_head}
 use Rattle.merge_inputs.specs.declared.Inputs.{Inputs}
 use Rattle.merge_inputs.specs.Verdict.{inputs_verdict}
 use Rattle.merge_inputs.specs.Taken.{inputs_of, InputsRead}
 use Rattle.merge_inputs.proofs.Reading.{inputs_passed}
-use Rattle.write_plan.specs.of_merge_line_up.declared.LinedUp.{LinedUp}
-use Rattle.write_plan.specs.of_merge_line_up.declared.LinedUp.TheVariants.{Lined, Refused as Unlined}
 use Rattle.write_plan.specs.of_merge_line_up.LineUp.{line_up_verdict}
-use Rattle.write_plan.specs.of_merge_line_up.Answer.{lined_verdict, LinesUp}
+use Rattle.write_plan.specs.of_merge_line_up.Answer.{Lined, LinedUp, lined_verdict, LinesUp}
 use Rattle.write_plan.proofs.of_merge_line_up.Agrees.{agrees_of}
 use Rattle.write_plan.specs.of_merge_sections.Sections.{step_finding, late_finding}
 use Rattle.write_plan.specs.of_merge_sections.Stages.{StageRead}
 use Rattle.symbols_stage.specs.Verdict.{symbol_stages_verdict}
 use Rattle.symbols_stage.specs.declared.Counts.{Counts}
-use Rattle.symbols_stage.specs.declared.SymbolsEnd.{SymbolsEnd}
-use Rattle.symbols_stage.specs.declared.SymbolsEnd.TheVariants.{Numbered, Refused as Unnumbered}
-use Rattle.symbols_stage.specs.End.{end_verdict}
+use Rattle.symbols_stage.specs.End.{Numbered, SymbolsEnd, end_verdict}
 use Rattle.write_plan.specs.of_carry_clash.Clash.{CLASH, clash_finding}
 use Rattle.write_plan.specs.of_carry_entries.Carried.{carry_verdict}
 use Rattle.write_object.specs.Object.{moved_finding}
@@ -68,7 +59,7 @@ module _ (o : ByteOrder) (C A : List ℕ) (P : List Place) (B path : List ℕ) (
   -- ---- 15 to 19
 
   module _ (e : SymbolsEnd) (is : end_verdict e ≡ symbol_stages_verdict o C A P B mode head) where
-    pub answer_symbols : (n x p : ℕ) → e ≡ Unnumbered n x p → refused n x p ≡ symbols_answer o C A P B path flag mode room
+    pub answer_symbols : (n x p : ℕ) → e ≡ Refused n x p → refused n x p ≡ symbols_answer o C A P B path flag mode room
     unfolding symbols_answer references_verdict end_verdict
     answer_symbols n x p q = sym (if_refused _ _ n x p (also_refused _ _ n x p (sym is ∙ ap end_verdict q)))
 
@@ -89,38 +80,38 @@ module _ (o : ByteOrder) (C A : List ℕ) (P : List Place) (B path : List ℕ) (
 
   -- ---- 14
 
-  module _ (f : Finding) (is : f ≡ late_finding o C A P B) where
+  module _ (f : Option ℕ) (is : f ≡ late_finding o C A P B) where
     late_by : late_verdict o C A P B path flag mode ≡ also (finding_verdict LATE_STEP COMPILED f) (references_verdict o C A P B path flag mode)
     unfolding late_verdict
     late_by = rw is
 
-    pub answer_14 : (block : ℕ) → f ≡ At block → refused LATE_STEP COMPILED block ≡ late_answer o C A P B path flag mode room
+    pub answer_14 : (block : ℕ) → f ≡ Some block → refused LATE_STEP COMPILED block ≡ late_answer o C A P B path flag mode room
     unfolding late_answer
     answer_14 block t = sym (if_refused _ _ LATE_STEP COMPILED block (late_by ∙ also_refused _ _ LATE_STEP COMPILED block (finding_at LATE_STEP COMPILED f block t)))
 
-    pub answer_moved : f ≡ Clear → symbols_answer o C A P B path flag mode room ≡ late_answer o C A P B path flag mode room
+    pub answer_moved : f ≡ None → symbols_answer o C A P B path flag mode room ≡ late_answer o C A P B path flag mode room
     unfolding late_answer symbols_answer
     answer_moved t = sym (ap (λ (v : Verdict). if_passed v (merged_answer o C A P B path flag mode room)) (late_by ∙ also_passed _ _ (finding_clear LATE_STEP COMPILED f t)))
 
   -- ---- 10
 
-  module _ (f : Finding) (is : f ≡ clash_finding o C A flag) where
+  module _ (f : Option ℕ) (is : f ≡ clash_finding o C A flag) where
     clash_by : carried_verdict o C A P B path flag mode ≡ also (finding_verdict CLASH COMPILED f) (stages_verdict o C A P B path flag mode)
     unfolding carried_verdict
     clash_by = rw is
 
-    pub answer_10 : (i : ℕ) → f ≡ At i → refused CLASH COMPILED i ≡ carried_answer o C A P B path flag mode room
+    pub answer_10 : (i : ℕ) → f ≡ Some i → refused CLASH COMPILED i ≡ carried_answer o C A P B path flag mode room
     unfolding carried_answer
     answer_10 i t = sym (if_refused _ _ CLASH COMPILED i (clash_by ∙ also_refused _ _ CLASH COMPILED i (finding_at CLASH COMPILED f i t)))
 
-    pub answer_unclashed : f ≡ Clear → stages_answer o C A P B path flag mode room ≡ carried_answer o C A P B path flag mode room
+    pub answer_unclashed : f ≡ None → stages_answer o C A P B path flag mode room ≡ carried_answer o C A P B path flag mode room
     unfolding carried_answer stages_answer
     answer_unclashed t = sym (ap (λ (v : Verdict). if_passed v (merged_answer o C A P B path flag mode room)) (clash_by ∙ also_passed _ _ (finding_clear CLASH COMPILED f t)))
 
   -- ---- 11 to 13
 
   module _ (r : LinedUp) (w : LinesUp o C A P B r) where
-    pub answer_unlined : (n x p : ℕ) → r ≡ Unlined n x p → refused n x p ≡ stages_answer o C A P B path flag mode room
+    pub answer_unlined : (n x p : ℕ) → r ≡ Refused n x p → refused n x p ≡ stages_answer o C A P B path flag mode room
     unfolding stages_answer stages_verdict lined_verdict
     answer_unlined n x p e = sym (if_refused _ _ n x p (also_refused _ _ n x p (sym w.verdict ∙ ap lined_verdict e)))
 
@@ -152,7 +143,7 @@ module _ (C A B path : List ℕ) (flag mode room table places steps index : ℕ)
   verdict_over t = sym (if_refused _ _ LIMITS NONE 0 (also_refused _ _ LIMITS NONE 0 (limit_broken _ t)))
 
   module _ (kept : broken ≡ false) (r : Opened) (is : opened_verdict r ≡ inputs_verdict C A B) where
-    pub verdict_refused : (n o p : ℕ) → r ≡ Shut n o p → refused n o p ≡ merge_verdict C A B path flag mode room table places steps index
+    pub verdict_refused : (n o p : ℕ) → r ≡ Refused n o p → refused n o p ≡ merge_verdict C A B path flag mode room table places steps index
     unfolding merge_verdict opened_verdict
     verdict_refused n o p e = sym (if_refused _ _ n o p (also_passed _ _ (limit_kept _ kept) ∙ sym is ∙ ap opened_verdict e))
 
@@ -172,7 +163,7 @@ module _ (C A B path : List ℕ) (flag mode room table places steps index : ℕ)
     P = places_of (order_of C) C B
 
     tests : (broken ≡ false) × (inputs_verdict C A B ≡ Passed) × (carried_verdict (order_of C) C A P B path flag mode ≡ Passed)
-        × (moved_finding (merged_plan (order_of C) C A P B path flag mode) (order_of C) ≡ Clear) × (O ≡ merged_object (order_of C) C A P B path flag mode)
+        × (moved_finding (merged_plan (order_of C) C A P B path flag mode) (order_of C) ≡ None) × (O ≡ merged_object (order_of C) C A P B path flag mode)
     unfolding merge_verdict carried_answer merged_answer
     tests =
         let a = if_accepted _ _ O e in
@@ -182,7 +173,7 @@ module _ (C A B path : List ℕ) (flag mode room table places steps index : ℕ)
         let f = room_accepted _ O room d.1 in
         (limit_passed _ b.0, b.1, c.0, finding_passed STATICS COMPILED _ d.0, f.0)
 
-    stages : (clash_finding (order_of C) C A flag ≡ Clear) × (line_up_verdict (order_of C) C A P B ≡ Passed) × (late_finding (order_of C) C A P B ≡ Clear) × (symbol_stages_verdict (order_of C) C A P B mode (length (name_head mode path)) ≡ Passed)
+    stages : (clash_finding (order_of C) C A flag ≡ None) × (line_up_verdict (order_of C) C A P B ≡ Passed) × (late_finding (order_of C) C A P B ≡ None) × (symbol_stages_verdict (order_of C) C A P B mode (length (name_head mode path)) ≡ Passed)
         × (carry_verdict (order_of C) C A P B mode (length (name_head mode path)) ≡ Passed)
     unfolding carried_verdict stages_verdict late_verdict references_verdict
     stages =

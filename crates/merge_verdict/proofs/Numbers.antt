@@ -1,23 +1,17 @@
 -- Every refusal of a merge has a number of document 01's table, 1 to 21: an answer with number 0 is an accepted one. Assumes nothing.
+use Rattle.std.specs.Prelude.{None, Some, Option, Ok, Err}
 use Prim.Native.Nat.{ℕ, ◌≤◌, ◌<◌}
-use mathlib.Core.Path.{◌≡◌, refl}
+use mathlib.Core.Path.{◌≡◌, refl, ap}
 use mathlib.Core.Bool.{Bool, true, false}
 use mathlib.Core.List.{List}
 use native.Mathlib.Omega.{arith}
 use lib.ListN.{length}
 use lib.Dec.{leb}
 use Rattle.base_fields.specs.declared.ByteOrder.{ByteOrder}
-use Rattle.base_scope.specs.declared.Finding.{Finding}
-use Rattle.base_scope.specs.declared.Finding.TheVariants.{Clear, At}
-use Rattle.base_answers.specs.declared.Verdict.{Verdict}
-use Rattle.base_answers.specs.declared.Verdict.TheVariants.{Passed, Refused}
 use Rattle.base_answers.specs.Answers.{Answer, accepted, refused, pick_answer, room_for}
-use Rattle.base_answers.specs.Verdicts.{also, if_passed, limit_verdict, finding_verdict}
-use Rattle.elf_check.specs.declared.Checked.{Checked}
-use Rattle.elf_check.specs.declared.Checked.TheVariants.{Accepted, Refused as Faulty}
-use Rattle.elf_check.specs.Object.{refuse, check_tables, check_names, check_in, check_of}
-use Rattle.blocks_places.specs.declared.Placing.{Placing}
-use Rattle.blocks_places.specs.declared.Placing.TheVariants.{Placed, Misplaced, Misaligned}
+use Rattle.base_answers.specs.Verdicts.{Passed, Refused, Verdict, also, if_passed, limit_verdict, finding_verdict}
+use Rattle.elf_check.specs.Object.{Accepted, Refused as Faulty, Checked, refuse, check_tables, check_names, check_in, check_of}
+use Rattle.blocks_places.specs.declared.PlaceFault.TheVariants.{Misplaced, Misaligned}
 use Rattle.blocks_places.specs.Places.{Place}
 use Rattle.open_inputs.specs.Open.{check_verdict, placing_verdict, open_verdict}
 use Rattle.merge_inputs.specs.Verdict.{inputs_verdict}
@@ -29,6 +23,7 @@ use Rattle.symbols_stage.specs.Verdict.{list_verdict, symbol_stages_verdict}
 use Rattle.write_plan.specs.of_carry_entries.Carried.{carry_verdict}
 use Rattle.write_plan.specs.Answer.{merged_answer}
 use Rattle.merge_verdict.specs.Verdict.{references_verdict, late_verdict, stages_verdict, carried_verdict, carried_answer, merge_verdict}
+use Rattle.blocks_places.specs.Faults.{Placed, Placing}
 
 -- a number of the table
 abbrev pub Tabled : ℕ → Type 0
@@ -44,23 +39,32 @@ Listed c = (n p : ℕ) → c ≡ Faulty n p → Tabled n
 abbrev Answers : Answer → Type 0
 Answers a = (n o p : ℕ) → a ≡ refused n o p → Tabled n
 
+-- the number of a refusal, of an object too
+abbrev number_in : Verdict → ℕ
+number_in (Ok u) = 0
+number_in (Err r) = r.number
+
+abbrev fault_in : Checked → ℕ
+fault_in (Ok u) = 0
+fault_in (Err f) = f.number
+
 -- ---- how tests are put together
 
 passed_numbered : Numbered Passed
 passed_numbered n o p e = let z : ◌≡◌ {A = ℕ} 0 1 = cc in absurd (omega arith)
 
 refused_numbered : (n o p : ℕ) → Tabled n → Numbered (Refused n o p)
-refused_numbered n o p t m x q e = let z : n ≡ m = cc in (omega (arith, z, t.0), omega (arith, z, t.1))
+refused_numbered n o p t m x q e = let z : n ≡ m = ap number_in e in (omega (arith, z, t.0), omega (arith, z, t.1))
 
 also_numbered : (v rest : Verdict) → Numbered v → Numbered rest → Numbered (also v rest)
 unfolding also
-also_numbered Passed rest a b = b
-also_numbered (Refused n o p) rest a b = a
+also_numbered (Ok u) rest a b = b
+also_numbered (Err r) rest a b = a
 
-finding_numbered : (n o : ℕ) (f : Finding) → Tabled n → Numbered (finding_verdict n o f)
+finding_numbered : (n o : ℕ) (f : Option ℕ) → Tabled n → Numbered (finding_verdict n o f)
 unfolding finding_verdict
-finding_numbered n o Clear t = passed_numbered
-finding_numbered n o (At p) t = refused_numbered n o p t
+finding_numbered n o None t = passed_numbered
+finding_numbered n o (Some p) t = refused_numbered n o p t
 
 limit_numbered : (b : Bool) → Numbered (limit_verdict b)
 unfolding limit_verdict
@@ -69,8 +73,12 @@ limit_numbered false = passed_numbered
 
 if_answers : (v : Verdict) (rest : Answer) → Numbered v → Answers rest → Answers (if_passed v rest)
 unfolding if_passed
-if_answers Passed rest a b = b
-if_answers (Refused n o p) rest a b = λ m x q e. a m x q (let i : n ≡ m = cc in let j : o ≡ x = cc in let k : p ≡ q = cc in rw (i, j, k))
+if_answers (Ok u) rest a b = b
+if_answers (Err r) rest a b = λ m x q e.
+    let n : r.number ≡ m = cc in
+    let o : r.object ≡ x = cc in
+    let p : r.place ≡ q = cc in
+    a m x q (λ i. Err (record { number = n i; object = o i; place = p i }))
 
 room_answers : (l : List ℕ) (room : ℕ) → Answers (room_for l room)
 unfolding room_for
@@ -82,10 +90,10 @@ room_answers l room = picked (leb (length l) room)
 
 -- ---- the check of an object
 
-refuse_listed : (n : ℕ) (f : Finding) (rest : Checked) → Tabled n → Listed rest → Listed (refuse n f rest)
+refuse_listed : (n : ℕ) (f : Option ℕ) (rest : Checked) → Tabled n → Listed rest → Listed (refuse n f rest)
 unfolding refuse
-refuse_listed n Clear rest t l = l
-refuse_listed n (At p) rest t l = λ m q e. let z : n ≡ m = cc in (omega (arith, z, t.0), omega (arith, z, t.1))
+refuse_listed n None rest t l = l
+refuse_listed n (Some p) rest t l = λ m q e. let z : n ≡ m = ap fault_in e in (omega (arith, z, t.0), omega (arith, z, t.1))
 
 check_listed : (F : List ℕ) → Listed (check_of F)
 unfolding check_of check_in check_names check_tables
@@ -99,14 +107,14 @@ check_listed F =
 
 check_numbered : (object : ℕ) (c : Checked) → Listed c → Numbered (check_verdict object c)
 unfolding check_verdict
-check_numbered object Accepted l = passed_numbered
-check_numbered object (Faulty n p) l = refused_numbered n object p (l n p refl)
+check_numbered object (Ok u) l = passed_numbered
+check_numbered object (Err f) l = refused_numbered f.number object f.place (l f.number f.place refl)
 
 placing_numbered : (x : Placing) → Numbered (placing_verdict x)
 unfolding placing_verdict
-placing_numbered Placed = passed_numbered
-placing_numbered (Misplaced b) = refused_numbered 8 1 b (omega arith, omega arith)
-placing_numbered (Misaligned b) = refused_numbered 9 1 b (omega arith, omega arith)
+placing_numbered (Ok u) = passed_numbered
+placing_numbered (Err (Misplaced b)) = refused_numbered 8 1 b (omega arith, omega arith)
+placing_numbered (Err (Misaligned b)) = refused_numbered 9 1 b (omega arith, omega arith)
 
 -- ---- the merge
 

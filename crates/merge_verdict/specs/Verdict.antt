@@ -1,16 +1,13 @@
 -- The merge, whole (document 01, "Order"): 1; the inputs, C by 2 to 6, 7, blocks by 8 and 9, A by 2 to 6; 10; 11, 12 and 13; 14; 15 to 19; 20; 17 of a debug section that cannot
 -- move; 21. What it gives back is the merged object.
-use Rattle.std.specs.Prelude.{ℕ, ◌≤◌, ◌≡◌, Bool, true, not, ◌&&◌, ◌||◌, List, [], ◌∷◌, length, get_or, eqb, ltb, leb}
+use Rattle.std.specs.Prelude.{ℕ, ◌≤◌, ◌≡◌, Bool, true, not, ◌&&◌, ◌||◌, List, [], ◌∷◌, length, get_or, eqb, ltb, leb, None}
 use Rattle.base_lists.specs.Ranges.{first}
 use Rattle.base_fields.specs.declared.ByteOrder.{ByteOrder}
 use Rattle.base_scope.specs.Codes.{LATE_TARGET}
 use Rattle.base_scope.specs.Limits.{FILE_LIMIT, PATH_LIMIT, Bound, at_most, at_least, over_limits}
-use Rattle.base_scope.specs.declared.Finding.TheVariants.{Clear}
 use Rattle.base_scope.specs.Refusals.{LATE_STEP}
-use Rattle.base_answers.specs.declared.Verdict.{Verdict}
-use Rattle.base_answers.specs.declared.Verdict.TheVariants.{Passed}
 use Rattle.base_answers.specs.Answers.{Answer, COMPILED}
-use Rattle.base_answers.specs.Verdicts.{also, if_passed, limit_verdict, finding_verdict}
+use Rattle.base_answers.specs.Verdicts.{Passed, Verdict, also, if_passed, limit_verdict, finding_verdict}
 use Rattle.elf_readers.specs.Readers.{order_of, coded_contents}
 use Rattle.blocks_file.specs.Blocks.{block_count}
 use Rattle.blocks_places.specs.Places.{Place, places_of}
@@ -108,7 +105,7 @@ module _ (C A B path : List ℕ) (flag mode : ℕ) where
     pub mode_limit : mode ≤ 3
     pub path_is : is_path path ≡ true
     pub inputs : InputsPassed C A B
-    pub unclashed : clash_finding (order_of C) C A flag ≡ Clear
+    pub unclashed : clash_finding (order_of C) C A flag ≡ None
     pub agrees : Agrees (order_of C) C A (places_of (order_of C) C B) B
     pub moved : has_late_step (places_of (order_of C) C B) B ≡ true
         → late_step_fault (order_of C) (places_of (order_of C) C B) B
@@ -116,5 +113,5 @@ module _ (C A B path : List ℕ) (flag mode : ℕ) where
         ≡ block_count B
     pub symbols : symbol_stages_verdict (order_of C) C A (places_of (order_of C) C B) B mode (length (name_head mode path)) ≡ Passed
     pub carried : carry_verdict (order_of C) C A (places_of (order_of C) C B) B mode (length (name_head mode path)) ≡ Passed
-    pub movable : moved_finding (merged_plan (order_of C) C A (places_of (order_of C) C B) B path flag mode) (order_of C) ≡ Clear
+    pub movable : moved_finding (merged_plan (order_of C) C A (places_of (order_of C) C B) B path flag mode) (order_of C) ≡ None
     pub object : O ≡ merged_object (order_of C) C A (places_of (order_of C) C B) B path flag mode

@@ -7,28 +7,26 @@ use lib.ListN.{length, get_or}
 use Rattle.base_lists.specs.Windows.{spliced}
 use Rattle.base_fields.specs.declared.ByteOrder.{ByteOrder}
 use Rattle.base_scope.specs.Limits.{PLACE_TABLE}
-use Rattle.base_answers.specs.declared.Verdict.TheVariants.{Passed, Refused}
+use Rattle.base_answers.specs.Verdicts.{Passed, Refused}
 use Rattle.elf_readers.specs.Readers.{order_of}
 use Rattle.blocks_file.specs.Blocks.{block_count}
 use Rattle.blocks_file.specs.Table.{Parsed}
-use Rattle.blocks_places.specs.declared.Placing.TheVariants.{Placed}
 use Rattle.blocks_places.specs.Lines.{line_count}
 use Rattle.blocks_places.specs.Places.{Place, places_of}
-use Rattle.blocks_places.specs.Faults.{misplaced_at, placing}
+use Rattle.blocks_places.specs.Faults.{Placed, misplaced_at, placing}
 use Rattle.blocks_places.specs.Table.{places_in, place_table, Laid}
 use Rattle.blocks_places.proofs.Walk.{laid_of}
-use Rattle.open_inputs.specs.declared.Opened.TheVariants.{Blocks, Refused as Closed}
 use Rattle.open_inputs.specs.Open.{open_verdict}
-use Rattle.open_inputs.specs.Opened.{opened_verdict, Opening}
+use Rattle.open_inputs.specs.Opened.{Blocks, opened_verdict, Opening}
 
-closed_not : (n o p m : ℕ) → Closed n o p ≡ Blocks m → ⊥
+closed_not : (n o p m : ℕ) → Refused n o p ≡ Blocks m → ⊥
 closed_not n o p m e = let z : ◌≡◌ {A = ℕ} 0 1 = cc in omega arith
 
 blocks_same : (n m : ℕ) → Blocks n ≡ Blocks m → m ≡ n
 blocks_same n m e = cc
 
 module _ (C B table places : List ℕ) where
-  pub opening_refused : (n o p : ℕ) → open_verdict C B ≡ Refused n o p → Opening C B (Closed n o p) table places
+  pub opening_refused : (n o p : ℕ) → open_verdict C B ≡ Refused n o p → Opening C B (Refused n o p) table places
   unfolding opened_verdict
   opening_refused n o p e = record {
     verdict = sym e;

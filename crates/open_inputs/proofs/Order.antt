@@ -1,26 +1,21 @@
 -- The laws of what both calls begin with: the answers of its tests, one by one; the first that refuses decides; and what is known where all pass. Assumes nothing.
+use Rattle.std.specs.Prelude.{Option, Ok, Err}
 use Prim.Native.Nat.{ℕ}
 use mathlib.Core.Path.{◌≡◌, refl, sym, ap, ◌∙◌}
 use mathlib.Core.List.{List}
 use Rattle.base_fields.specs.declared.ByteOrder.{ByteOrder}
-use Rattle.base_scope.specs.declared.Finding.{Finding}
 use Rattle.base_scope.specs.Refusals.{BLOCK_FILE, BLOCK_PLACE, BLOCK_ALIGNMENT}
-use Rattle.base_answers.specs.declared.Verdict.{Verdict}
-use Rattle.base_answers.specs.declared.Verdict.TheVariants.{Passed, Refused}
 use Rattle.base_answers.specs.Answers.{NONE, COMPILED}
-use Rattle.base_answers.specs.Verdicts.{finding_verdict}
+use Rattle.base_answers.specs.Verdicts.{Passed, Refused, Verdict, finding_verdict}
 use Rattle.base_answers.proofs.Verdicts.{also_passed, also_refused, also_parts, finding_passed}
 use Rattle.elf_readers.specs.Readers.{order_of}
-use Rattle.elf_check.specs.declared.Checked.{Checked}
-use Rattle.elf_check.specs.declared.Checked.TheVariants.{Accepted, Refused as Faulty}
-use Rattle.elf_check.specs.Object.{check_of}
+use Rattle.elf_check.specs.Object.{Accepted, Refused as Faulty, Checked, check_of}
 use Rattle.elf_check.specs.Sound.{Sound}
 use Rattle.elf_check.proofs.Sound.{accepted}
 use Rattle.elf_check.proofs.Order.{accepted_big, accepted_stated}
 use Rattle.blocks_file.specs.Blocks.{block_fault}
-use Rattle.blocks_places.specs.declared.Placing.{Placing}
-use Rattle.blocks_places.specs.declared.Placing.TheVariants.{Placed, Misplaced, Misaligned}
-use Rattle.blocks_places.specs.Faults.{placing}
+use Rattle.blocks_places.specs.declared.PlaceFault.TheVariants.{Misplaced, Misaligned}
+use Rattle.blocks_places.specs.Faults.{Placed, Placing, placing}
 use Rattle.open_inputs.specs.Open.{check_verdict, placing_verdict, open_verdict, OpenPassed}
 
 -- ---- one test
@@ -36,31 +31,31 @@ module _ (object : ℕ) (f : Checked) where
 
 pub check_passed : (object : ℕ) (f : Checked) → check_verdict object f ≡ Passed → f ≡ Accepted
 unfolding check_verdict
-check_passed object Accepted e = refl
-check_passed object (Faulty number place) e = cc
+check_passed object (Ok u) e = refl
+check_passed object (Err f) e = cc
 
 module _ (f : Placing) where
   pub placing_placed : f ≡ Placed → Passed ≡ placing_verdict f
   unfolding placing_verdict
   placing_placed e = rw e
 
-  pub placing_8 : (block : ℕ) → f ≡ Misplaced block → Refused BLOCK_PLACE COMPILED block ≡ placing_verdict f
+  pub placing_8 : (block : ℕ) → f ≡ Err (Misplaced block) → Refused BLOCK_PLACE COMPILED block ≡ placing_verdict f
   unfolding placing_verdict
   placing_8 block e = rw e
 
-  pub placing_9 : (block : ℕ) → f ≡ Misaligned block → Refused BLOCK_ALIGNMENT COMPILED block ≡ placing_verdict f
+  pub placing_9 : (block : ℕ) → f ≡ Err (Misaligned block) → Refused BLOCK_ALIGNMENT COMPILED block ≡ placing_verdict f
   unfolding placing_verdict
   placing_9 block e = rw e
 
 pub placing_passed : (f : Placing) → placing_verdict f ≡ Passed → f ≡ Placed
 unfolding placing_verdict
-placing_passed Placed e = refl
-placing_passed (Misplaced block) e = cc
-placing_passed (Misaligned block) e = cc
+placing_passed (Ok u) e = refl
+placing_passed (Err (Misplaced block)) e = cc
+placing_passed (Err (Misaligned block)) e = cc
 
 -- ---- from the values as they are read
 
-pub read_as : (B : List ℕ) (f : Finding) (r v : Verdict) → f ≡ block_fault B → r ≡ finding_verdict BLOCK_FILE NONE f → r ≡ v → finding_verdict BLOCK_FILE NONE (block_fault B) ≡ v
+pub read_as : (B : List ℕ) (f : Option ℕ) (r v : Verdict) → f ≡ block_fault B → r ≡ finding_verdict BLOCK_FILE NONE f → r ≡ v → finding_verdict BLOCK_FILE NONE (block_fault B) ≡ v
 read_as B f r v e is told = ap (finding_verdict BLOCK_FILE NONE) (sym e) ∙ sym is ∙ told
 
 pub placed_as : (C B : List ℕ) (o : ByteOrder) (f : Placing) (r v : Verdict) → o ≡ order_of C → f ≡ placing o C B → r ≡ placing_verdict f → r ≡ v

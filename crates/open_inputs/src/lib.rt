@@ -14,46 +14,51 @@ ghost use Rattle.blocks_places.specs.Table.{Placement};
 ghost use Rattle.open_inputs.specs.Open.{check_verdict, placing_verdict};
 ghost use Rattle.open_inputs.specs.Opened.{Opening};
 
-use base_answers::Verdict;
+use base_answers::Refusal;
 use base_fields::ByteOrder;
 use blocks_file::BlockFile;
-use blocks_places::Placing;
-use elf_check::Checked;
+use blocks_places::PlaceFault;
 use elf_symbols::SymbolTable;
 
-// The number of blocks, or a refusal's number, object and place.
-#[derive(Clone, Copy)]
-pub enum Opened {
-    Blocks(usize),
-    Refused(u32, u32, u64),
-}
-
 // Refusals 2 to 6 of an object.
-pub fn check_verdict(object: u32, file: &[u8]) -> Verdict
+pub fn check_verdict(object: u32, file: &[u8]) -> Result<(), Refusal>
     ensures { result ≡ check_verdict object (check_of file.now) }
 {
     match elf_check::check(file) {
-        Checked::Accepted => Verdict::Passed,
-        Checked::Refused(number, place) => Verdict::Refused(number, object, place as u64),
+        Ok(()) => Ok(()),
+        Err(fault) => Err(Refusal {
+            number: fault.number,
+            object,
+            place: fault.place as u64,
+        }),
+    }
+}
+
+// Refusals 8 and 9 of a block.
+fn place_refusal(fault: PlaceFault) -> Refusal
+    ensures { placing_verdict (Err fault) ≡ Err result }
+{
+    match fault {
+        PlaceFault::Misplaced(block) => Refusal {
+            number: base_scope::BLOCK_PLACE,
+            object: base_answers::COMPILED,
+            place: block as u64,
+        },
+        PlaceFault::Misaligned(block) => Refusal {
+            number: base_scope::BLOCK_ALIGNMENT,
+            object: base_answers::COMPILED,
+            place: block as u64,
+        },
     }
 }
 
 // Refusals 8 and 9.
-fn placing_verdict(placing: Placing) -> Verdict
+fn placing_verdict(placing: Result<(), PlaceFault>) -> Result<(), Refusal>
     ensures { result ≡ placing_verdict placing }
 {
     match placing {
-        Placing::Placed => Verdict::Passed,
-        Placing::Misplaced(block) => Verdict::Refused(
-            base_scope::BLOCK_PLACE,
-            base_answers::COMPILED,
-            block as u64,
-        ),
-        Placing::Misaligned(block) => Verdict::Refused(
-            base_scope::BLOCK_ALIGNMENT,
-            base_answers::COMPILED,
-            block as u64,
-        ),
+        Ok(placed) => Ok(placed),
+        Err(fault) => Err(place_refusal(fault)),
     }
 }
 
@@ -86,7 +91,7 @@ fn place_lines(
     blocks: usize,
     table: &mut [u8],
     places: &mut [u8],
-) -> Placing
+) -> Result<(), PlaceFault>
     requires { Table order compiled.now symbols × Parsed file.now (part_at 0 BLOCK_TABLE table.old) × (blocks ≡ block_count file.now) × (PLACE_TABLE ≤ length places.old)
         × (OPEN_TABLE ≤ length table.old) }
     ensures { Placement order compiled.now file.now result places.old places.new × KeptBefore BLOCK_TABLE table.old table.new }
@@ -97,28 +102,24 @@ fn place_lines(
     blocks_places::place_spans(order, compiled, symbols, index, file, own, blocks, places)
 }
 
-// Takes in a compiled object and a block file. The table of blocks stands at the front of its buffer. The tables need no particular contents before; after a refusal theirs are of no account.
-pub fn open(compiled: &[u8], file: &[u8], table: &mut [u8], places: &mut [u8]) -> Opened
+// Takes in a compiled object and a block file: the number of blocks, or the refusal. The table of blocks stands at the front of its buffer. The tables need no particular contents before; after a refusal theirs are of no account.
+pub fn open(
+    compiled: &[u8],
+    file: &[u8],
+    table: &mut [u8],
+    places: &mut [u8],
+) -> Result<usize, Refusal>
     requires { (length file.now ≤ FILE_LIMIT) × (OPEN_TABLE ≤ length table.old) × (PLACE_TABLE ≤ length places.old) }
     ensures { Opening compiled.now file.now result (part_at 0 BLOCK_TABLE table.new) places.new }
 {
-    let checked = check_verdict(base_answers::COMPILED, compiled);
-    if let Verdict::Refused(number, object, place) = checked {
-        return Opened::Refused(number, object, place);
-    }
+    check_verdict(base_answers::COMPILED, compiled)?;
     let blocks = read_rows(file, table);
     let fault = blocks.fault;
-    let read = base_answers::finding_verdict(base_scope::BLOCK_FILE, base_answers::NONE, fault);
-    if let Verdict::Refused(number, object, place) = read {
-        return Opened::Refused(number, object, place);
-    }
+    base_answers::finding_verdict(base_scope::BLOCK_FILE, base_answers::NONE, fault)?;
     let order = elf_readers::order_of(compiled);
     let symbols = elf_symbols::symbol_table(order, compiled);
     let count = blocks.count;
     let placing = place_lines(order, compiled, symbols, file, count, table, places);
-    let placed = placing_verdict(placing);
-    if let Verdict::Refused(number, object, place) = placed {
-        return Opened::Refused(number, object, place);
-    }
-    Opened::Blocks(count)
+    placing_verdict(placing)?;
+    Ok(count)
 }

@@ -2,8 +2,7 @@
 use Rattle.std.proofs.Common.{◌≡◌, ℕ, List}
 use Rattle.base_fields.specs.declared.ByteOrder.{ByteOrder}
 use Rattle.elf_readers.specs.Readers.{order_of}
-use Rattle.elf_check.specs.declared.Checked.TheVariants.{Accepted}
-use Rattle.elf_check.specs.Object.{check_of}
+use Rattle.elf_check.specs.Object.{Accepted, check_of}
 use Rattle.elf_check.specs.Sound.{Sound}
 use Rattle.elf_check.proofs.Sound.{accepted}
 

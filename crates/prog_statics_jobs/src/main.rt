@@ -11,8 +11,7 @@ ghost use Rattle.elf_readers.specs.Bounds.{Headed, Named};
 ghost use Rattle.elf_symbols.specs.Symbols.{Tabled};
 
 use base_fields::ByteOrder;
-use base_scope::Finding;
-use elf_check::{Checked, View};
+use elf_check::View;
 use statics_table::Static;
 use std::fs::File;
 use std::io::Read;
@@ -158,8 +157,8 @@ fn run_accepted(
     let fault = r.fault;
     let tally = r.tally;
     match fault {
-        Finding::Clear => print_statics(rt, file, view, mode, path, table, tally.count),
-        Finding::At(place) => print_refusal(rt, base_scope::STATICS, place),
+        None => print_statics(rt, file, view, mode, path, table, tally.count),
+        Some(place) => print_refusal(rt, base_scope::STATICS, place),
     }
 }
 
@@ -176,8 +175,8 @@ fn run_object(
     let order = elf_readers::order_of(file);
     let answer = elf_check::check(file);
     match answer {
-        Checked::Refused(number, place) => print_refusal(rt, number, place),
-        Checked::Accepted => {
+        Err(fault) => print_refusal(rt, fault.number, fault.place),
+        Ok(()) => {
             run_accepted(rt, order, file, mode, path, table)?;
             print_sections(rt, order, file, by)
         }

@@ -3,8 +3,7 @@
 // and the room in the output. The list is the file that the first argument names.
 #![tactic(auto)]
 
-use base_answers::Outcome;
-use elf_check::Checked;
+use base_answers::{Outcome, Refusal};
 use std::fs::File;
 use std::io::Read;
 use std::{env, io};
@@ -12,18 +11,22 @@ use std::{env, io};
 // Refusals 1 to 6, then the object written anew.
 fn write_again(file: &[u8], out: &mut [u8]) -> Outcome {
     if file.len() > base_scope::FILE_LIMIT {
-        return base_answers::refusal(base_scope::LIMITS, base_answers::NONE, 0);
+        return base_answers::refused(Refusal {
+            number: base_scope::LIMITS,
+            object: base_answers::NONE,
+            place: 0,
+        });
     }
     match elf_check::check(file) {
-        Checked::Accepted => {
+        Ok(()) => {
             let order = elf_readers::order_of(file);
             write_object::rewrite(file, order, out)
         }
-        Checked::Refused(number, place) => base_answers::refusal(
-            number,
-            base_answers::COMPILED,
-            place as u64,
-        ),
+        Err(fault) => base_answers::refused(Refusal {
+            number: fault.number,
+            object: base_answers::COMPILED,
+            place: fault.place as u64,
+        }),
     }
 }
 

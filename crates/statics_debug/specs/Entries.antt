@@ -86,6 +86,6 @@ opens_scope type = among type (6 ∷ 7 ∷ 11 ∷ 14 ∷ 26 ∷ 27 ∷ 28 ∷ []
 unfoldable pub closes_scope : ℕ → Bool
 closes_scope type = among type (8 ∷ [])
 
--- storage class 1 .text, (2).data, (3).bss, (15).rodata: the section's code; 0 for any other class
+-- storage class 1 .text, 2 .data, 3 .bss, 15 .rodata: the section's code; 0 for any other class
 unfoldable pub storage_code : ℕ → ℕ
 storage_code class = cond (eqb class 1) TEXT (cond (eqb class 2) DATA (cond (eqb class 3) BSS (cond (eqb class 15) RODATA 0)))

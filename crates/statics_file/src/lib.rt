@@ -68,8 +68,7 @@ pub fn walk_entries(
     let mut opened: usize = 0;
     let mut closed: usize = 0;
     let mut filled = tally;
-    let mut j: usize = 0;
-    while j < n {
+    for j in 0..n {
         let at = start + Entry::SIZE * j;
         let nested = closed + 1 < opened;
         let e = statics_entry::walk_entry(order, file, setting, at, base, nested, filled, table);
@@ -83,7 +82,6 @@ pub fn walk_entries(
         }
         opened += opens(e.kind);
         closed += closes(e.kind);
-        j += 1;
     }
     FileEnd {
         bad: opened != closed,

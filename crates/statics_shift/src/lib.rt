@@ -45,10 +45,8 @@ fn moved_words(h: Hdrr, old: u32, new: u32) -> [u32; 23]
 {
     let words = h.words;
     let mut moved = [0u32; 23];
-    let mut i: usize = 0;
-    while i < 23 {
+    for i in 0..23 {
         moved[i] = moved_word(&words, old, new, i);
-        i += 1;
     }
     moved
 }

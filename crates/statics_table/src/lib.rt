@@ -115,12 +115,10 @@ fn past_namesake(file: &[u8], table: &[u8], n: usize, name: &[u8]) -> usize
     requires { (STATIC_ROW * n ≤ length table.now) × (n ≤ STATIC_LIMIT) }
     ensures { (result ≡ past_last (λ k. is_namesake file.now name.now (static_in table.now k)) n) × (result ≤ n) }
 {
-    let mut k = n;
-    while k > 0 {
-        if is_namesake(file, table, k - 1, name) {
-            return k;
+    for k in (0..n).rev() {
+        if is_namesake(file, table, k, name) {
+            return k + 1;
         }
-        k -= 1;
     }
     0
 }

@@ -1,4 +1,5 @@
 -- Laws of the walk over the files: what a file leaves, and what the end of the walk answers. Assumes nothing.
+use Rattle.std.specs.Prelude.{None, Some, Option}
 use mathlib.Core.Path.{◌≡◌, refl, sym, ap, ◌∙◌}
 use mathlib.Core.Bool.{true, false, not, and-false}
 use mathlib.Core.List.{List, []}
@@ -13,8 +14,6 @@ use Rattle.base_lists.proofs.Ranges.{by-test, both, first_here, first_next, firs
 use Rattle.base_lists.specs.Windows.{spliced}
 use Rattle.base_lists.proofs.Windows.{spliced_same, spliced_nil}
 use Rattle.base_fields.specs.declared.ByteOrder.{ByteOrder}
-use Rattle.base_scope.specs.declared.Finding.{Finding}
-use Rattle.base_scope.specs.declared.Finding.TheVariants.{Clear, At}
 use Rattle.base_scope.specs.Limits.{STATIC_TABLE}
 use Rattle.base_scope.specs.Refusals.{expect}
 use Rattle.elf_readers.specs.Readers.{section_count, contents}
@@ -161,7 +160,7 @@ files_none o C head t T h = record {
 }
 
 module _ (o : ByteOrder) (C : List ℕ) (head : ℕ) (t : Tables) where
-  fault_at_lem : (i : ℕ) → faulty_file o C head t ≡ i → i < t.files → walk_fault o C head t ≡ At (entries_before o C t i + completed o C head t i)
+  fault_at_lem : (i : ℕ) → faulty_file o C head t ≡ i → i < t.files → walk_fault o C head t ≡ Some (entries_before o C t i + completed o C head t i)
   unfolding walk_fault
   fault_at_lem i e h = rw (e, lt-ltb i t.files h)
 
@@ -170,7 +169,7 @@ module _ (o : ByteOrder) (C : List ℕ) (head : ℕ) (t : Tables) where
   unfolding walk_list
   list_at i e h = rw (e, lt-ltb i t.files h)
 
-  fault_none : faulty_file o C head t ≡ t.files → walk_fault o C head t ≡ Clear
+  fault_none : faulty_file o C head t ≡ t.files → walk_fault o C head t ≡ None
   unfolding walk_fault
   fault_none e = rw (e, le-ltb t.files t.files (omega arith))
 
@@ -179,7 +178,7 @@ module _ (o : ByteOrder) (C : List ℕ) (head : ℕ) (t : Tables) where
   list_all e = rw (e, le-ltb t.files t.files (omega arith))
 
 module _ (o : ByteOrder) (C : List ℕ) (head : ℕ) (t : Tables) (T₀ : List ℕ) (i entries : ℕ) (u : Tally) (T : List ℕ) (w : FilesSoFar o C head t T₀ i entries u T) where
-  pub files_end : t.files ≤ i → StaticsListed head C (walk_fault o C head t) (walk_list o C head t) (record { fault = Clear; tally = u }) T₀ T
+  pub files_end : t.files ≤ i → StaticsListed head C (walk_fault o C head t) (walk_list o C head t) (record { fault = None; tally = u }) T₀ T
   files_end h =
       let e : i ≡ t.files = omega (arith, w.low) in
       let f : faulty_file o C head t ≡ t.files = w.ahead ∙ first_end (file_fault o C head t) i t.files h ∙ e in
@@ -200,7 +199,7 @@ module _ (o : ByteOrder) (C : List ℕ) (head : ℕ) (t : Tables) (T₀ : List �
     files_long = tables.1
 
     pub files_stop : r.bad ≡ true
-        → StaticsListed head C (walk_fault o C head t) (walk_list o C head t) (record { fault = At (entries + r.entries); tally = r.tally }) T₀ T'
+        → StaticsListed head C (walk_fault o C head t) (walk_list o C head t) (record { fault = Some (entries + r.entries); tally = r.tally }) T₀ T'
     files_stop b =
         let f : faulty_file o C head t ≡ i = w.ahead ∙ first_here (file_fault o C head t) i t.files h (sym q.fault ∙ b) in
         let l : statics_in T' r.tally.count ≡ walk_list o C head t =
@@ -232,7 +231,7 @@ module _ (o : ByteOrder) (C : List ℕ) (head : ℕ) (t : Tables) (T₀ : List �
 -- ---- the debug section
 
 -- no static: the table stays
-pub listed_none : (head : ℕ) (C : List ℕ) (f x : Finding) (l : List Static) (r : Listing) (T : List ℕ) → STATIC_TABLE ≤ length T → r ≡ no_statics x → x ≡ f → l ≡ []
+pub listed_none : (head : ℕ) (C : List ℕ) (f x : Option ℕ) (l : List Static) (r : Listing) (T : List ℕ) → STATIC_TABLE ≤ length T → r ≡ no_statics x → x ≡ f → l ≡ []
     → StaticsListed head C f l r T T
 unfolding no_statics
 listed_none head C f x l r T h a e is = rw a (record {
@@ -248,13 +247,13 @@ part_at o C i e = ap (contents o C) e
 
 module _ (o : ByteOrder) (C : List ℕ) (head : ℕ) where
   -- a header that leaves the section
-  pub debug_short : (D : List ℕ) (r : Listing) (T : List ℕ) → D ≡ debug_part o C → length D < TABLES_SIZE → r ≡ no_statics (At 0) → STATIC_TABLE ≤ length T
+  pub debug_short : (D : List ℕ) (r : Listing) (T : List ℕ) → D ≡ debug_part o C → length D < TABLES_SIZE → r ≡ no_statics (Some 0) → STATIC_TABLE ≤ length T
       → StaticsListed head C (debug_fault o C head) (debug_list o C head) r T T
   unfolding debug_fault debug_list expect
   debug_short D r T e h a room =
       let l : length (debug_part o C) < TABLES_SIZE = rw (← e) h in
       let k : leb TABLES_SIZE (length (debug_part o C)) ≡ false = lt-leb _ _ l in
-      listed_none head C _ (At 0) _ r T room a (rw k) (rw k)
+      listed_none head C _ (Some 0) _ r T room a (rw k) (rw k)
 
   pub debug_read : (D : List ℕ) (t : Tables) (r : Listing) (T T' : List ℕ) → D ≡ debug_part o C → TABLES_SIZE ≤ length D → t ≡ tables_in o D
       → StaticsListed head C (walk_fault o C head t) (walk_list o C head t) r T T' → StaticsListed head C (debug_fault o C head) (debug_list o C head) r T T'
@@ -265,17 +264,17 @@ module _ (o : ByteOrder) (C : List ℕ) (head : ℕ) where
       let f : t ≡ tables_in o (debug_part o C) = is ∙ ap (tables_in o) e in
       rw (k, ← f) a
 
-  reads_none : (mode : ℕ) (r : Listing) (T : List ℕ) → reads_statics o C mode ≡ false → r ≡ no_statics Clear → STATIC_TABLE ≤ length T
+  reads_none : (mode : ℕ) (r : Listing) (T : List ℕ) → reads_statics o C mode ≡ false → r ≡ no_statics None → STATIC_TABLE ≤ length T
       → StaticsListed head C (statics_fault o C mode head) (statics o C mode head) r T T
   unfolding statics_fault statics
-  reads_none mode r T f a room = listed_none head C _ Clear _ r T room a (rw f) (rw f)
+  reads_none mode r T f a room = listed_none head C _ None _ r T room a (rw f) (rw f)
 
-  pub mode_none : (mode : ℕ) (r : Listing) (T : List ℕ) → mode ≡ MODE_NO → r ≡ no_statics Clear → STATIC_TABLE ≤ length T
+  pub mode_none : (mode : ℕ) (r : Listing) (T : List ℕ) → mode ≡ MODE_NO → r ≡ no_statics None → STATIC_TABLE ≤ length T
       → StaticsListed head C (statics_fault o C mode head) (statics o C mode head) r T T
   unfolding reads_statics
   mode_none mode r T e a room = reads_none mode r T (rw e) a room
 
-  pub debug_absent : (mode i : ℕ) (r : Listing) (T : List ℕ) → i ≡ debug_section o C → section_count o C ≤ i → r ≡ no_statics Clear → STATIC_TABLE ≤ length T
+  pub debug_absent : (mode i : ℕ) (r : Listing) (T : List ℕ) → i ≡ debug_section o C → section_count o C ≤ i → r ≡ no_statics None → STATIC_TABLE ≤ length T
       → StaticsListed head C (statics_fault o C mode head) (statics o C mode head) r T T
   unfolding reads_statics has_debug
   debug_absent mode i r T e h a room =

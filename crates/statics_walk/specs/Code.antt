@@ -1,8 +1,7 @@
 -- Of the code, not of document 01: what the walk over the files answers, and what it leaves in the table of statics.
-use Rattle.std.specs.Prelude.{ℕ, ◌<◌, List, ◌≡◌}
+use Rattle.std.specs.Prelude.{ℕ, ◌<◌, List, ◌≡◌, Option}
 use Rattle.base_lists.specs.Windows.{spliced}
 use Rattle.base_fields.specs.declared.ByteOrder.{ByteOrder}
-use Rattle.base_scope.specs.declared.Finding.{Finding}
 use Rattle.statics_debug.specs.declared.Tables.{Tables}
 use Rattle.statics_table.specs.declared.Static.{Static}
 use Rattle.statics_table.specs.Table.{static_rows, statics_in, StaticTable}
@@ -21,12 +20,12 @@ pub record FileListed (o : ByteOrder) (C : List ℕ) (head : ℕ) (t : Tables) (
   pub filled : StaticTable head C after r.tally
 
 -- a fault and a list of statics as an answer
-pub record StaticsListed (head : ℕ) (C : List ℕ) (f : Finding) (l : List Static) (r : Listing) (before after : List ℕ) : Type 0 where
+pub record StaticsListed (head : ℕ) (C : List ℕ) (f : Option ℕ) (l : List Static) (r : Listing) (before after : List ℕ) : Type 0 where
   pub fault : r.fault ≡ f
   pub list : statics_in after r.tally.count ≡ l
   pub table : after ≡ spliced before 0 (static_rows l)
   pub filled : StaticTable head C after r.tally
 
 -- the answer without a static
-unfoldable pub no_statics : Finding → Listing
+unfoldable pub no_statics : Option ℕ → Listing
 no_statics f = record { fault = f; tally = record { count = 0; size = 0 } }

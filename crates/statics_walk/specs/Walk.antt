@@ -1,11 +1,9 @@
 -- Refusal 17 and the statics of the compiled object C (document 01, "Statics"): the files of the debug section in order; for each its descriptor, its entries,
 -- and its level at the end.
-use Rattle.std.specs.Prelude.{ℕ, zero, suc, ◌+◌, ◌*◌, Bool, cond, not, ◌&&◌, ◌||◌, List, [], length, eqb, ltb, leb}
+use Rattle.std.specs.Prelude.{ℕ, zero, suc, ◌+◌, ◌*◌, Bool, cond, not, ◌&&◌, ◌||◌, List, [], length, eqb, ltb, leb, None, Some, Option}
 use Rattle.base_lists.specs.Ranges.{first, sum, pick_list}
 use Rattle.base_fields.specs.declared.ByteOrder.{ByteOrder}
 use Rattle.base_scope.specs.Text.{text}
-use Rattle.base_scope.specs.declared.Finding.{Finding}
-use Rattle.base_scope.specs.declared.Finding.TheVariants.{Clear, At}
 use Rattle.base_scope.specs.Refusals.{pick_finding, expect}
 use Rattle.elf_readers.specs.Readers.{section_count, section_named, contents}
 use Rattle.statics_debug.specs.declared.Tables.{Tables}
@@ -61,8 +59,8 @@ module _ (o : ByteOrder) (C : List ℕ) (head : ℕ) (t : Tables) where
   faulty_file = first file_fault 0 t.files
 
   -- the place is the number of entries completed so far
-  unfoldable pub walk_fault : Finding
-  walk_fault = pick_finding (ltb faulty_file t.files) (At (entries_before o C t faulty_file + completed faulty_file)) Clear
+  unfoldable pub walk_fault : Option ℕ
+  walk_fault = pick_finding (ltb faulty_file t.files) (Some (entries_before o C t faulty_file + completed faulty_file)) None
 
   -- the statics: all, or those before the fault
   unfoldable pub walk_list : List Static
@@ -82,8 +80,8 @@ module _ (o : ByteOrder) (C : List ℕ) where
   unfoldable pub debug_part : List ℕ
   debug_part = contents o C debug_section
 
-  -- 17 at 0 where a header read leaves.mdebug: 80 bytes hold the four words
-  unfoldable pub debug_fault : ℕ → Finding
+  -- 17 at 0 where a header read leaves .mdebug: 80 bytes hold the four words
+  unfoldable pub debug_fault : ℕ → Option ℕ
   debug_fault head = expect (leb TABLES_SIZE (length debug_part)) 0 (walk_fault o C head (tables_in o debug_part))
 
   unfoldable pub debug_list : ℕ → List Static
@@ -94,8 +92,8 @@ module _ (o : ByteOrder) (C : List ℕ) where
   reads_statics mode = not (eqb mode MODE_NO) && has_debug
 
   -- refusal 17, before any section moves
-  unfoldable pub statics_fault : ℕ → ℕ → Finding
-  statics_fault mode head = pick_finding (reads_statics mode) (debug_fault head) Clear
+  unfoldable pub statics_fault : ℕ → ℕ → Option ℕ
+  statics_fault mode head = pick_finding (reads_statics mode) (debug_fault head) None
 
   unfoldable pub statics : ℕ → ℕ → List Static
   statics mode head = pick_list (reads_statics mode) (debug_list head) []

@@ -12,7 +12,6 @@ ghost use Rattle.statics_walk.specs.Walk.{listed_before, walk_fault, walk_list, 
 ghost use Rattle.statics_walk.specs.Code.{FileListed, StaticsListed, no_statics};
 
 use base_fields::ByteOrder;
-use base_scope::Finding;
 use elf_check::View;
 use statics_debug::{Entry, FileRecord, Tables};
 use statics_entry::Setting;
@@ -53,7 +52,7 @@ fn walk_file(
 // The answer of a walk: refusal 17, and how far the table is filled.
 #[derive(Clone, Copy)]
 pub struct Listing {
-    pub fault: Finding,
+    pub fault: Option<usize>,
     pub tally: Tally,
 }
 
@@ -70,27 +69,25 @@ fn walk_files(
 {
     let mut entries: usize = 0;
     let mut filled = Tally { count: 0, size: 0 };
-    let mut i: usize = 0;
-    while i < t.files as usize {
+    for i in 0..t.files as usize {
         let e = walk_file(order, file, setting, t, i, filled, table);
         entries += e.entries;
         filled = e.tally;
         if e.bad {
             return Listing {
-                fault: Finding::At(entries),
+                fault: Some(entries),
                 tally: filled,
             };
         }
-        i += 1;
     }
     Listing {
-        fault: Finding::Clear,
+        fault: None,
         tally: filled,
     }
 }
 
 // The answer of a walk that lists no static.
-fn no_statics(fault: Finding) -> Listing
+fn no_statics(fault: Option<usize>) -> Listing
     ensures { result ≡ no_statics fault }
 {
     let none = Tally { count: 0, size: 0 };
@@ -111,7 +108,7 @@ fn list_debug(
 {
     let debug = elf_readers::contents_of(order, file, i);
     if debug.len() < Tables::SIZE {
-        return no_statics(Finding::At(0));
+        return no_statics(Some(0));
     }
     let t = Tables::new(order, debug);
     walk_files(order, file, setting, t, table)
@@ -130,12 +127,12 @@ pub fn list_statics(
     ensures { StaticsListed head file.now (statics_fault order file.now mode head) (statics order file.now mode head) result table.old table.new }
 {
     if mode == statics_table::MODE_NO {
-        return no_statics(Finding::Clear);
+        return no_statics(None);
     }
     let i = elf_readers::section_named(order, file, b".mdebug");
     if i < view.sections {
         let setting = Setting { view, head };
         return list_debug(order, file, setting, i, table);
     }
-    no_statics(Finding::Clear)
+    no_statics(None)
 }

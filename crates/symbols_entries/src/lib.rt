@@ -201,7 +201,7 @@ fn origin_entry(
     static_entry(statics, mode, both, section, id - behind)
 }
 
-// The entry of an id: `entry_of` where section and value are those of its row (proofs/Ids.antt, `entry_of`).
+// The entry of an id: `entry_of` where section and value are those of its row (proofs/Ids.antt, `entry_of_lem`).
 pub fn entry_of_id<'a>(
     order: ByteOrder,
     compiled: &'a [u8],

@@ -1,4 +1,5 @@
 -- What each way through the code says of a place: a late place is a word of the table, and sections are at most as many as an object may have. Assumes nothing.
+use Rattle.std.specs.Prelude.{None, Some, Option}
 use Prim.Native.Nat.{ℕ, ◌+◌, ◌-◌, ◌*◌, ◌/◌, ◌^◌, ◌≤◌, ◌<◌}
 use mathlib.Core.Path.{◌≡◌, refl, sym, ◌∙◌}
 use mathlib.Core.Bool.{Bool, true, false, ◌&&◌}
@@ -23,8 +24,6 @@ use Rattle.elf_symbols.specs.Symbols.{symbol_place, symbol}
 use Rattle.elf_check.specs.declared.View.{View}
 use Rattle.elf_check.specs.View.{section_in, Viewed}
 use Rattle.elf_check.proofs.Views.{view_section}
-use Rattle.late_laws.specs.of_late_lookups.declared.LatePlace.{LatePlace}
-use Rattle.late_laws.specs.of_late_lookups.declared.LatePlace.TheVariants.{Moved, Unmoved}
 use Rattle.late_laws.specs.of_late_lookups.Fields.{SOURCE, DUMMIES, LAST, late_field, late_word, row_dummies, row_past, place_in_row, is_start, offset_at}
 use Rattle.statics_table.specs.declared.Static.{Static}
 use Rattle.statics_table.specs.Statics.{static_binding}
@@ -54,10 +53,10 @@ small_sections o F v w c low high = omega (arith, view_section o F v w.is c low 
 
 -- ---- late places
 
-moved_same : (a b : ℕ) → Moved a ≡ Moved b → a ≡ b
+moved_same : (a b : ℕ) → Some a ≡ Some b → a ≡ b
 moved_same a b e = cc
 
-unmoved_not : (p : ℕ) → Unmoved ≡ Moved p → ⊥
+unmoved_not : (p : ℕ) → None ≡ Some p → ⊥
 unmoved_not p e = let z : ◌≡◌ {A = ℕ} 0 1 = cc in omega arith
 
 module _ (late : List ℕ) (bytes : (i : ℕ) → get_or late i 0 < 256) where
@@ -67,21 +66,21 @@ module _ (late : List ℕ) (bytes : (i : ℕ) → get_or late i 0 < 256) where
       (λ t. rw t (omega (arith, number_lt Big 3 late (LATE_WORDS + 3 * (late_field late DUMMIES i + (x - late_field late SOURCE i) / 4)) bytes)))
       (λ f. rw f (omega (arith, number_lt Big 4 late (LATE_ROW * (i + 1) + 4 * LAST) bytes)))
 
-  pub place_small : (n x : ℕ) (r : LatePlace) (p : ℕ) → r ≡ offset_at late n x → r ≡ Moved p → p < 2 ^ 32
+  pub place_small : (n x : ℕ) (r : Option ℕ) (p : ℕ) → r ≡ offset_at late n x → r ≡ Some p → p < 2 ^ 32
   unfolding offset_at
   place_small n x r p e m = by-test (ltb (row_past late SOURCE n x) n && is_start late (row_past late SOURCE n x) x)
       (λ t.
       let i : ℕ = row_past late SOURCE n x in
-      let q : Moved (place_in_row late i x) ≡ Moved p = sym (e ∙ rw t) ∙ m in
+      let q : Some (place_in_row late i x) ≡ Some p = sym (e ∙ rw t) ∙ m in
       rw (← moved_same (place_in_row late i x) p q) (row_small i x))
       (λ f. absurd (unmoved_not p (sym (e ∙ rw f) ∙ m)))
 
 module _ (runs : Bool) (late : List ℕ) (n x : ℕ) where
-  pub late_moved : (r : LatePlace) (p : ℕ) → runs ≡ true → r ≡ offset_at late n x → r ≡ Moved p → p ≡ late_place_in runs late n x
+  pub late_moved : (r : Option ℕ) (p : ℕ) → runs ≡ true → r ≡ offset_at late n x → r ≡ Some p → p ≡ late_place_in runs late n x
   unfolding late_place_in
   late_moved r p t e m = rw (t, ← e, m)
 
-  pub late_unmoved : (r : LatePlace) → runs ≡ true → r ≡ offset_at late n x → r ≡ Unmoved → 0 ≡ late_place_in runs late n x
+  pub late_unmoved : (r : Option ℕ) → runs ≡ true → r ≡ offset_at late n x → r ≡ None → 0 ≡ late_place_in runs late n x
   unfolding late_place_in
   late_unmoved r t e m = rw (t, ← e, m)
 

@@ -1,6 +1,6 @@
 -- Of the code, not of document 01: the row of each id, over what is in hand. C is the compiled object, A the assembled one, T the table of statics, `late` the table of the late
 -- step, f the rest. proofs/Candidates.antt says that taken ids stand where their entries do.
-use Rattle.std.specs.Prelude.{ℕ, ◌+◌, ◌*◌, ◌≤◌, ◌<◌, ◌≡◌, Bool, true, false, cond, ◌&&◌, List, length, eqb}
+use Rattle.std.specs.Prelude.{ℕ, ◌+◌, ◌*◌, ◌≤◌, ◌<◌, ◌≡◌, Bool, true, false, cond, ◌&&◌, List, length, eqb, None, Some, Option}
 use Rattle.base_lists.specs.Windows.{Within}
 use Rattle.base_fields.specs.declared.ByteOrder.{ByteOrder}
 use Rattle.base_packed.specs.Packed.{binding_of}
@@ -10,8 +10,6 @@ use Rattle.elf_records.specs.declared.symbol.SymbolEntry.{SymbolEntry}
 use Rattle.elf_symbols.specs.Symbols.{symbol_count, symbol, symbol_name}
 use Rattle.elf_check.specs.declared.View.{View}
 use Rattle.elf_check.specs.View.{section_in, Viewed}
-use Rattle.late_laws.specs.of_late_lookups.declared.LatePlace.{LatePlace}
-use Rattle.late_laws.specs.of_late_lookups.declared.LatePlace.TheVariants.{Moved, Unmoved}
 use Rattle.late_laws.specs.of_late_lookups.Fields.{offset_at}
 use Rattle.statics_table.specs.Statics.{working_name, static_binding}
 use Rattle.statics_table.specs.Table.{static_in}
@@ -37,9 +35,9 @@ unfoldable pub place_c : ByteOrder → List ℕ → ℕ → SymbolPlace
 place_c o C k = place_by_entry (symbol o C k)
 
 -- what an answer of the table comes to
-abbrev pub place_number : LatePlace → ℕ
-place_number (Moved p) = p
-place_number Unmoved = 0
+abbrev pub place_number : Option ℕ → ℕ
+place_number (Some p) = p
+place_number None = 0
 
 -- the place of late offset x, by the table of n blocks where the late step runs
 unfoldable pub late_place_in : Bool → List ℕ → ℕ → ℕ → ℕ

@@ -18,7 +18,6 @@ use base_fields::ByteOrder;
 use elf_check::View;
 use late_laws::late_length::LateStep;
 use late_laws::late_lookups;
-use late_laws::late_lookups::LatePlace;
 use statics_table::Static;
 pub use symbols_holders;
 use symbols_holders::merge_inputs::Inputs;
@@ -80,8 +79,8 @@ fn late_place(runs: bool, late: &[u8], blocks: usize, x: u32) -> u32
 {
     if runs {
         return match late_lookups::offset_at(late, blocks, x) {
-            LatePlace::Moved(place) => place as u32,
-            LatePlace::Unmoved => 0,
+            Some(place) => place as u32,
+            None => 0,
         };
     }
     0
@@ -194,11 +193,9 @@ fn fill_c(compiled: &[u8], inputs: Inputs, rows: &mut [u8])
     let strings = elf_symbols::strings_of(compiled, symbols);
     let at = symbols.at;
     let n = symbols.count;
-    let mut k: usize = 0;
-    while k < n {
+    for k in 0..n {
         let row = row_c(order, compiled, at, strings, k);
         symbols_rows::write_id(rows, k, row);
-        k += 1;
     }
 }
 
@@ -244,11 +241,9 @@ fn fill_a(
     let symbols = view.symbols;
     let strings = elf_symbols::strings_of(assembled, symbols);
     let n = symbols.count;
-    let mut k: usize = 0;
-    while k < n {
+    for k in 0..n {
         let row = row_a(assembled, strings, used, late, filling, k);
         symbols_rows::write_id(rows, first + k, row);
-        k += 1;
     }
 }
 
@@ -273,11 +268,9 @@ fn fill_statics(
     requires { StaticsReady statics.now filling n × (first ≤ 2 * SYMBOL_LIMIT) × (ID_ROW * (first + n) ≤ length rows.old) }
     ensures { RowsPut (row_static compiled.now statics.now filling) first n rows.old rows.new }
 {
-    let mut k: usize = 0;
-    while k < n {
+    for k in 0..n {
         let row = row_static(compiled, statics, filling, k);
         symbols_rows::write_id(rows, first + k, row);
-        k += 1;
     }
 }
 

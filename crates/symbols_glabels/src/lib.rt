@@ -111,13 +111,12 @@ fn mark_named(
     let hash = base_index::hash_of(name);
     let mut k = base_index::head_of(index, base_scope::SYMBOL_LIMIT, n, hash);
     while k < n {
-        if mark_symbol(
+        if !mark_symbol(
             order, assembled, at, strings, index, name, hash, put, k, marks,
         ) {
-            k = base_index::next_of(index, base_scope::SYMBOL_LIMIT, k);
-        } else {
             return;
         }
+        k = base_index::next_of(index, base_scope::SYMBOL_LIMIT, k);
     }
 }
 
@@ -179,12 +178,10 @@ fn mark_sizes(
     ensures { Holds (λ k. size_below (places_in places.now (line_count file.now)) file.now (symbol_name order assembled.now k) (block_count file.now))
         (symbol_count order assembled.now) marks.old marks.new }
 {
-    let mut i: usize = 0;
-    while i < blocks {
+    for i in 0..blocks {
         mark_size(
             order, assembled, symbols, file, table, places, index, i, marks,
         );
-        i += 1;
     }
 }
 
@@ -263,12 +260,10 @@ fn mark_live(
     ensures { Marked (λ k. is_glabel (places_in places.now (line_count file.now)) file.now (symbol_name order assembled.now k))
         0 (symbol_count order assembled.now) marks.old marks.new }
 {
-    let mut block: usize = 0;
-    while block < blocks {
+    for block in 0..blocks {
         mark_block(
             order, assembled, symbols, file, table, places, index, block, marks,
         );
-        block += 1;
     }
 }
 

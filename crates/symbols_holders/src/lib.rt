@@ -139,12 +139,10 @@ fn put_hashes<'a>(
         × KnownHashes order assembled.now known index.old }
     ensures { Hashed (id_name order compiled.now assembled.now statics.now sources) list.now index.new m }
 {
-    let mut k: usize = 0;
-    while k < m {
+    for k in 0..m {
         put_hash(
             order, compiled, assembled, statics, sources, list, known, k, index,
         );
-        k += 1;
     }
 }
 
@@ -269,11 +267,9 @@ pub fn hold_names<'a>(
     ensures { NamesHeld (symbols_in order compiled.now assembled.now statics.now sources rows.now) m
         holders.old holders.new }
 {
-    let mut p: usize = 0;
-    while p < m {
+    for p in 0..m {
         hold_name(
             order, compiled, assembled, statics, sources, rows, list, index, m, p, holders,
         );
-        p += 1;
     }
 }

@@ -30,7 +30,7 @@ finished name e = record {
 }
 
 module _ (o : ByteOrder) (C A : List ℕ) (P : List Place) (B : List ℕ) where
-  -- the place of late offset x in the final.rodata
+  -- the place of late offset x in the final .rodata
   unfoldable pub late_place : ℕ → ℕ
   late_place x =
       moved_place o P B (copied (spans_of P B LATE_TARGET) (coded_contents o C LATE_TARGET) (coded_contents o A LATE_TARGET)) (late_start o A) x

@@ -10,9 +10,8 @@ use Rattle.base_groups.specs.Groups.{in_group, of_group, grouped, grouped_place}
 use Rattle.base_groups.specs.Holders.{holder, is_holder}
 use Rattle.base_scope.specs.Text.{text}
 use Rattle.base_scope.specs.Refusals.{LOOSE_SYMBOL, NAME_TWICE, found_below}
-use Rattle.base_answers.specs.declared.Verdict.TheVariants.{Passed, Refused}
 use Rattle.base_answers.specs.Answers.{NONE}
-use Rattle.base_answers.specs.Verdicts.{also, finding_verdict}
+use Rattle.base_answers.specs.Verdicts.{Passed, Refused, also, finding_verdict}
 use Rattle.symbols_merge.specs.Candidates.{Candidates, is_defined, is_unnamed, is_local, is_gp_disp}
 use Rattle.symbols_merge.specs.Listed.{list_group, listed, position, listed_at, is_alike, holder_of, is_loose, is_elsewhere, symbols_verdict}
 use Rattle.symbols_merge.specs.Merged.{result_group, is_merged, group_at_position, merged, merged_count, local_count, merged_at, held_by, number_of}

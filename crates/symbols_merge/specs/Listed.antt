@@ -6,9 +6,8 @@ use Rattle.base_lists.specs.Strings.{same}
 use Rattle.base_groups.specs.Groups.{grouped, grouped_place}
 use Rattle.base_groups.specs.Holders.{holder}
 use Rattle.base_scope.specs.Refusals.{LOOSE_SYMBOL, NAME_TWICE, found_below}
-use Rattle.base_answers.specs.declared.Verdict.{Verdict}
 use Rattle.base_answers.specs.Answers.{NONE}
-use Rattle.base_answers.specs.Verdicts.{also, finding_verdict}
+use Rattle.base_answers.specs.Verdicts.{Verdict, also, finding_verdict}
 use Rattle.symbols_merge.specs.Candidates.{Candidates, is_defined, is_unnamed, is_local}
 
 module _ (s : Candidates) where

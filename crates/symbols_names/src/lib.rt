@@ -109,10 +109,8 @@ fn digit_before(number: u32, low: usize) -> u8
     ensures { result ≡ 48 + without_last low number % 10 }
 {
     let mut n = number;
-    let mut k = low;
-    while k > 0 {
+    for _ in 0..low {
         n = n / 10;
-        k -= 1;
     }
     (48 + n % 10) as u8
 }
@@ -170,11 +168,8 @@ fn is_joined_same(a: &[u8], m: u32, b: &[u8], n: u32) -> bool
     if long != other {
         return false;
     }
-    let mut i: usize = 0;
-    while i < long {
-        if is_same_byte(a, m, b, n, i) {
-            i += 1;
-        } else {
+    for i in 0..long {
+        if !is_same_byte(a, m, b, n, i) {
             return false;
         }
     }

@@ -1,4 +1,5 @@
 -- The group of a position is what its row tells, a word that is written changes no other, and numbers become symbols by cases. Assumes nothing.
+use Rattle.std.specs.Prelude.{None, Some}
 use Prim.Native.Nat.{ℕ, zero, suc, ◌+◌, ◌*◌, ◌≤◌, ◌<◌}
 use mathlib.Core.Path.{◌≡◌, refl, sym, ap, ◌∙◌}
 use mathlib.Core.Bool.{true, false, cond}
@@ -21,7 +22,6 @@ use Rattle.symbols_rows.specs.declared.IdRow.{IdRow}
 use Rattle.symbols_rows.specs.Rows.{id_row, half_in, result_group_in}
 use Rattle.symbols_rows.proofs.Rows.{row_fields}
 use Rattle.base_scope.specs.Elf.{STB_LOCAL}
-use Rattle.symbols_numbers.specs.declared.NewSymbol.TheVariants.{Merged, Gone}
 use Rattle.symbols_numbers.specs.Numbers.{binding_group, holds_in, count_behind, OrderedAt, number_on, NumberedAt, new_symbol, new_in}
 
 -- ---- groups
@@ -80,11 +80,11 @@ module _ (T : List ℕ) (k x : ℕ) (fits : 2 * k + 2 ≤ length T) where
 
 -- ---- the symbol of a number
 
-pub symbol_none : (x : ℕ) → x ≡ 0 → new_symbol x ≡ Gone
+pub symbol_none : (x : ℕ) → x ≡ 0 → new_symbol x ≡ None
 unfolding new_symbol
 symbol_none x e = rw e
 
-pub symbol_some : (x : ℕ) (s : MergedSymbol) → (x ≡ 0 → ⊥) → s.0 ≡ x → new_symbol x ≡ Merged s
+pub symbol_some : (x : ℕ) (s : MergedSymbol) → (x ≡ 0 → ⊥) → s.0 ≡ x → new_symbol x ≡ Some s
 unfolding new_symbol
 symbol_some zero s d e = absurd (d refl)
 symbol_some (suc x) s d e = rw (← e)
@@ -94,7 +94,7 @@ module _ (N : List ℕ) (from many k : ℕ) where
   unfolding new_in
   new_in_lem h = rw (lt-ltb k many h)
 
-  pub new_past : many ≤ k → new_in N from many k ≡ Gone
+  pub new_past : many ≤ k → new_in N from many k ≡ None
   unfolding new_in
   new_past h = rw (le-ltb k many h)
 

@@ -1,5 +1,6 @@
 -- What the tables tell is the merge of symbols: position by position the list, the holders and the groups are those of the candidates, and so are the order and the
 -- numbers made of them. Assumes that rows, list and holders are in hand.
+use Rattle.std.specs.Prelude.{None, Some, Option}
 use Prim.Native.Nat.{ℕ, ◌+◌, ◌-◌, ◌*◌, ◌≤◌, ◌<◌}
 use mathlib.Core.Path.{◌≡◌, refl, sym, ap, ◌∙◌}
 use mathlib.Core.Bool.{Bool, true, false, cond, ◌&&◌}
@@ -22,8 +23,7 @@ use Rattle.symbols_merge.proofs.Merged.{Taken, position_lt, listed_position, num
 use Rattle.symbols_merge.proofs.Agree.{Agree, merged_agree, count_agree, locals_agree, number_agree}
 use Rattle.symbols_rows.specs.Rows.{id_taken, id_binding, candidates_in, RowsOf, half_in, halves_in, ListOf, HoldersOf, result_group_in}
 use Rattle.symbols_rows.proofs.Tables.{list_long, list_at, list_taken, holder_in, holders_of}
-use Rattle.symbols_numbers.specs.declared.NewSymbol.{NewSymbol}
-use Rattle.symbols_numbers.specs.declared.NewSymbol.TheVariants.{Merged, Gone}
+use Rattle.base_packed.specs.declared.MergedSymbol.{MergedSymbol}
 use Rattle.symbols_numbers.specs.Numbers.{holds_in, Tables, HoldersFirst, IdRoom, order_in, group_starts, number_at, number_by, IdsNumbered, new_in}
 use Rattle.symbols_numbers.specs.Result.{StartsOf, OrderOf, NumbersOf, new_of}
 use Rattle.symbols_numbers.proofs.Leaves.{holds_self, symbol_none, symbol_some, new_in_lem, new_past}
@@ -223,18 +223,18 @@ module _ (s : Candidates) (N : List ℕ) (w : NumbersOf s N) (from many k : ℕ)
       (λ l. rw (le-ltb k many l) (new_past N from many k l))
 
 -- the two cases of a symbol, told apart
-abbrev is_entry : NewSymbol → Bool
-is_entry (Merged x) = true
-is_entry Gone = false
+abbrev is_entry : Option MergedSymbol → Bool
+is_entry (Some x) = true
+is_entry None = false
 
-abbrev entry_of : NewSymbol → ℕ
-entry_of (Merged x) = x.0
-entry_of Gone = 0
+abbrev entry_of : Option MergedSymbol → ℕ
+entry_of (Some x) = x.0
+entry_of None = 0
 
-entry_same : (x y : MergedSymbol) → Merged x ≡ Merged y → x.0 ≡ y.0
+entry_same : (x y : MergedSymbol) → Some x ≡ Some y → x.0 ≡ y.0
 entry_same x y e = ap entry_of e
 
-entry-not-gone {ℓ} : {A : Type ℓ} (x : MergedSymbol) → Merged x ≡ Gone → A
+entry-not-gone {ℓ} : {A : Type ℓ} (x : MergedSymbol) → Some x ≡ None → A
 entry-not-gone x e = both refl (ap is_entry e)
 
 module _ (s : Candidates) (from many k : ℕ) where
@@ -243,17 +243,17 @@ module _ (s : Candidates) (from many k : ℕ) where
     pub taken : s.taken (from + k) ≡ true
     pub number : x.0 ≡ number_of s (from + k)
 
-  pub new_merged : (x : MergedSymbol) → new_of s from many k ≡ Merged x → Became x
+  pub new_merged : (x : MergedSymbol) → new_of s from many k ≡ Some x → Became x
   unfolding new_of
   new_merged x e = by-test (ltb k many && s.taken (from + k))
       (λ t.
       let r = and_parts (ltb k many) (s.taken (from + k)) t in
-      let q : Merged (record { 0 = number_of s (from + k) }) ≡ Merged x = rw t at e in
+      let q : Some (record { 0 = number_of s (from + k) }) ≡ Some x = rw t at e in
       record { own = ltb-true k many r.0; taken = r.1; number = sym (entry_same _ x q) })
-      (λ f. let q : Gone ≡ Merged x = rw f at e in entry-not-gone x (sym q))
+      (λ f. let q : None ≡ Some x = rw f at e in entry-not-gone x (sym q))
 
-  pub new_gone : new_of s from many k ≡ Gone → (ltb k many && s.taken (from + k)) ≡ false
+  pub new_gone : new_of s from many k ≡ None → (ltb k many && s.taken (from + k)) ≡ false
   unfolding new_of
   new_gone e = by-test (ltb k many && s.taken (from + k))
-      (λ t. let q : Merged (record { 0 = number_of s (from + k) }) ≡ Gone = rw t at e in entry-not-gone _ q)
+      (λ t. let q : Some (record { 0 = number_of s (from + k) }) ≡ None = rw t at e in entry-not-gone _ q)
       (λ f. f)

@@ -1,6 +1,6 @@
 -- Of the code, not of document 01: the order of the result's symbols and the number of each id, by the tables T of id rows, L of positions and H of holders
 -- (`symbols_rows`, specs/Rows.antt). What these are of the candidates is in proofs/Result.antt.
-use Rattle.std.specs.Prelude.{ℕ, zero, suc, ◌+◌, ◌*◌, ◌≤◌, ◌<◌, ◌≡◌, Bool, true, false, cond, List, length, ltb, eqb}
+use Rattle.std.specs.Prelude.{ℕ, zero, suc, ◌+◌, ◌*◌, ◌≤◌, ◌<◌, ◌≡◌, Bool, true, false, cond, List, length, ltb, eqb, None, Some, Option}
 use Rattle.base_lists.specs.Ranges.{count, select}
 use Rattle.base_lists.specs.Windows.{spliced}
 use Rattle.base_fields.specs.declared.ByteOrder.TheVariants.{Big}
@@ -11,8 +11,7 @@ use Rattle.base_groups.specs.Groups.{in_group, grouped, grouped_place}
 use Rattle.symbols_merge.specs.Merged.{RESULT_GROUPS, LOCAL_GROUPS}
 use Rattle.symbols_rows.specs.Rows.{half_in, result_group_in}
 use Rattle.symbols_rows.specs.Steps.{Holders}
-use Rattle.symbols_numbers.specs.declared.NewSymbol.{NewSymbol}
-use Rattle.symbols_numbers.specs.declared.NewSymbol.TheVariants.{Merged, Gone}
+use Rattle.base_packed.specs.declared.MergedSymbol.{MergedSymbol}
 
 -- the first group of a binding
 unfoldable pub binding_group : ℕ → ℕ
@@ -94,14 +93,14 @@ module _ (T L H : List ℕ) (m : ℕ) where
     pub word : (i : ℕ) → 2 * i + 2 ≤ length N → half_in N i ≡ number_by i k
 
 -- the symbol of a number
-unfoldable pub new_symbol : ℕ → NewSymbol
-new_symbol zero = Gone
-new_symbol (suc x) = Merged (record { 0 = suc x })
+unfoldable pub new_symbol : ℕ → Option MergedSymbol
+new_symbol zero = None
+new_symbol (suc x) = Some (record { 0 = suc x })
 
-abbrev pub pick_symbol : Bool → NewSymbol → NewSymbol → NewSymbol
+abbrev pub pick_symbol : Bool → Option MergedSymbol → Option MergedSymbol → Option MergedSymbol
 pick_symbol true a b = a
 pick_symbol false a b = b
 
 -- what symbol k of an object becomes, whose `many` symbols have the ids from `from` on
-unfoldable pub new_in : List ℕ → ℕ → ℕ → ℕ → NewSymbol
-new_in N from many k = pick_symbol (ltb k many) (new_symbol (half_in N (from + k))) Gone
+unfoldable pub new_in : List ℕ → ℕ → ℕ → ℕ → Option MergedSymbol
+new_in N from many k = pick_symbol (ltb k many) (new_symbol (half_in N (from + k))) None

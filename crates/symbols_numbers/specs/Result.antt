@@ -1,10 +1,9 @@
 -- Of the code, not of document 01: the order of the result and the numbers of the candidates s in hand, as numbers of a table each, and what an object's symbol becomes.
-use Rattle.std.specs.Prelude.{ℕ, ◌+◌, ◌*◌, ◌≤◌, ◌<◌, ◌≡◌, cond, ◌&&◌, List, length, get_or, ltb}
+use Rattle.std.specs.Prelude.{ℕ, ◌+◌, ◌*◌, ◌≤◌, ◌<◌, ◌≡◌, cond, ◌&&◌, List, length, get_or, ltb, None, Some, Option}
 use Rattle.symbols_merge.specs.Candidates.{Candidates}
 use Rattle.symbols_merge.specs.Merged.{RESULT_GROUPS, LOCAL_GROUPS, merged, merged_count, local_count, number_of}
 use Rattle.symbols_rows.specs.Rows.{half_in, halves_in}
-use Rattle.symbols_numbers.specs.declared.NewSymbol.{NewSymbol}
-use Rattle.symbols_numbers.specs.declared.NewSymbol.TheVariants.{Merged, Gone}
+use Rattle.base_packed.specs.declared.MergedSymbol.{MergedSymbol}
 use Rattle.symbols_numbers.specs.Numbers.{pick_symbol}
 
 module _ (s : Candidates) where
@@ -24,5 +23,5 @@ module _ (s : Candidates) where
     pub is : (i : ℕ) → i < s.many → half_in N i ≡ cond (s.taken i) (number_of s i) 0
 
   -- what becomes of symbol k of an object whose `many` symbols are the candidates from `from` on
-  unfoldable pub new_of : ℕ → ℕ → ℕ → NewSymbol
-  new_of from many k = pick_symbol (ltb k many && s.taken (from + k)) (Merged (record { 0 = number_of s (from + k) })) Gone
+  unfoldable pub new_of : ℕ → ℕ → ℕ → Option MergedSymbol
+  new_of from many k = pick_symbol (ltb k many && s.taken (from + k)) (Some (record { 0 = number_of s (from + k) })) None

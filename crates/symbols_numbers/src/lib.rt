@@ -21,13 +21,6 @@ const LOCAL_GROUPS: usize = 2;
 // One start for each group, and the end of the last.
 pub const STARTS: usize = 5;
 
-// What becomes of a symbol of an object: an entry of the result, or none.
-#[derive(Clone, Copy)]
-pub enum NewSymbol {
-    Merged(MergedSymbol),
-    Gone,
-}
-
 // The first group of a binding: locals come first.
 fn binding_group(binding: u32) -> usize
     ensures { (result ≡ binding_group binding) × (result ≤ LOCAL_GROUPS) }
@@ -79,11 +72,9 @@ fn count_groups(rows: &[u8], list: &[u8], holders: &[u8], m: usize) -> [usize; G
     ensures { result ≡ group_counts rows.now list.now holders.now m }
 {
     let mut counts = [0usize; GROUPS];
-    let mut p: usize = 0;
-    while p < m {
+    for p in 0..m {
         let g = result_group(rows, list, p);
         counts[g] = count_behind(holders, p, counts[g]);
-        p += 1;
     }
     counts
 }
@@ -127,11 +118,9 @@ pub fn order_positions(
         ≡ order_in rows.now list.now holders.now m RESULT_GROUPS }
 {
     let mut next = starts;
-    let mut p: usize = 0;
-    while p < m {
+    for p in 0..m {
         let g = result_group(rows, list, p);
         next[g] = order_position(holders, p, next[g], order);
-        p += 1;
     }
 }
 
@@ -186,27 +175,25 @@ pub fn number_ids(
 {
     base_buffers::zero(numbers);
     let mut next = starts;
-    let mut p: usize = 0;
-    while p < m {
+    for p in 0..m {
         let g = result_group(rows, list, p);
         next[g] = number_position(list, holders, p, next[g], numbers);
-        p += 1;
     }
 }
 
-// The symbol of a number.
-fn new_symbol(number: usize) -> NewSymbol
+// The entry of the result that has a number; 0 is none.
+fn new_symbol(number: usize) -> Option<MergedSymbol>
     requires { number < 2 ^ 32 }
     ensures { result ≡ new_symbol number }
 {
     if number == 0 {
-        return NewSymbol::Gone;
+        return None;
     }
-    NewSymbol::Merged(MergedSymbol(number as u32))
+    Some(MergedSymbol(number as u32))
 }
 
-// What C's symbol k becomes: C has `count` symbols, and their ids are their indices.
-pub fn new_of_c(numbers: &[u8], count: usize, k: CompiledSymbol) -> NewSymbol
+// The entry of the result that C's symbol k becomes, if any: C has `count` symbols, and their ids are their indices.
+pub fn new_of_c(numbers: &[u8], count: usize, k: CompiledSymbol) -> Option<MergedSymbol>
     requires { 2 * count ≤ length numbers.now }
     ensures { result ≡ new_in numbers.now 0 count k.0 }
 {
@@ -214,11 +201,16 @@ pub fn new_of_c(numbers: &[u8], count: usize, k: CompiledSymbol) -> NewSymbol
     if i < count {
         return new_symbol(symbols_rows::half_at(numbers, i));
     }
-    NewSymbol::Gone
+    None
 }
 
-// What A's symbol k becomes: A has `count` symbols, and their ids run from `first` on.
-pub fn new_of_a(numbers: &[u8], first: usize, count: usize, k: AssembledSymbol) -> NewSymbol
+// The entry of the result that A's symbol k becomes, if any: A has `count` symbols, and their ids run from `first` on.
+pub fn new_of_a(
+    numbers: &[u8],
+    first: usize,
+    count: usize,
+    k: AssembledSymbol,
+) -> Option<MergedSymbol>
     requires { 2 * (first + count) ≤ length numbers.now }
     ensures { result ≡ new_in numbers.now first count k.0 }
 {
@@ -226,5 +218,5 @@ pub fn new_of_a(numbers: &[u8], first: usize, count: usize, k: AssembledSymbol) 
     if i < count {
         return new_symbol(symbols_rows::half_at(numbers, first + i));
     }
-    NewSymbol::Gone
+    None
 }

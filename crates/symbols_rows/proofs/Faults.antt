@@ -1,4 +1,5 @@
 -- 18 and 19 at a position, from the rows in hand; the search for the first position that is at fault; and the two of them in order. Assumes nothing.
+use Rattle.std.specs.Prelude.{None, Some, Option}
 use Prim.Native.Nat.{ℕ, ◌+◌, ◌≤◌, ◌<◌}
 use mathlib.Core.Path.{◌≡◌, refl, sym, ap, ◌∙◌}
 use mathlib.Core.Bool.{Bool, true, false, not, ◌&&◌, ◌||◌}
@@ -8,13 +9,9 @@ use borrow.Author.Tests.{eq-eqb, ne_eqb, lt-ltb, le-ltb}
 use Rattle.base_lists.specs.Ranges.{first}
 use Rattle.base_lists.proofs.Ranges.{first_here, first_next, first_end}
 use Rattle.base_scope.specs.Elf.{SHN_UNDEF, STB_LOCAL}
-use Rattle.base_scope.specs.declared.Finding.{Finding}
-use Rattle.base_scope.specs.declared.Finding.TheVariants.{Clear, At}
 use Rattle.base_scope.specs.Refusals.{LOOSE_SYMBOL, NAME_TWICE, found_below}
-use Rattle.base_answers.specs.declared.Verdict.{Verdict}
-use Rattle.base_answers.specs.declared.Verdict.TheVariants.{Passed, Refused}
 use Rattle.base_answers.specs.Answers.{NONE}
-use Rattle.base_answers.specs.Verdicts.{finding_verdict}
+use Rattle.base_answers.specs.Verdicts.{Passed, Refused, Verdict, finding_verdict}
 use Rattle.base_answers.proofs.Verdicts.{also_passed, also_refused}
 use Rattle.symbols_rows.specs.declared.IdRow.{IdRow}
 use Rattle.symbols_rows.specs.Rows.{id_unnamed, id_binding, id_section, id_value, id_row, half_in, loose_in, elsewhere_in}
@@ -23,14 +20,14 @@ use Rattle.symbols_rows.specs.Steps.{verdict_in}
 -- ---- a search
 
 module _ (t : ℕ → Bool) (m p : ℕ) (on : first t 0 m ≡ first t p m) where
-  pub fault_here : p < m → (b : Bool) → b ≡ t p → b ≡ true → At p ≡ found_below m (first t 0 m)
+  pub fault_here : p < m → (b : Bool) → b ≡ t p → b ≡ true → Some p ≡ found_below m (first t 0 m)
   unfolding found_below
   fault_here h b e y = rw (on, first_here t p m h (sym e ∙ y), lt-ltb p m h)
 
   pub fault_next : p < m → (b : Bool) → b ≡ t p → b ≡ false → first t 0 m ≡ first t (p + 1) m
   fault_next h b e n = on ∙ first_next t p m h (sym e ∙ n)
 
-  pub fault_none : m ≤ p → Clear ≡ found_below m (first t 0 m)
+  pub fault_none : m ≤ p → None ≡ found_below m (first t 0 m)
   unfolding found_below
   fault_none h = rw (on, first_end t p m h, le-ltb p m h)
 
@@ -97,7 +94,7 @@ module _ (T L H : List ℕ) (p q : ℕ) (row held : IdRow) (is : row ≡ id_row 
 
 -- ---- 18, then 19
 
-module _ (T L H : List ℕ) (m : ℕ) (f : Finding) (is : f ≡ found_below m (first (loose_in T L) 0 m)) (v : Verdict) (so : v ≡ finding_verdict LOOSE_SYMBOL NONE f) where
+module _ (T L H : List ℕ) (m : ℕ) (f : Option ℕ) (is : f ≡ found_below m (first (loose_in T L) 0 m)) (v : Verdict) (so : v ≡ finding_verdict LOOSE_SYMBOL NONE f) where
   loose_is : v ≡ finding_verdict LOOSE_SYMBOL NONE (found_below m (first (loose_in T L) 0 m))
   loose_is = so ∙ ap (finding_verdict LOOSE_SYMBOL NONE) is
 
@@ -105,6 +102,6 @@ module _ (T L H : List ℕ) (m : ℕ) (f : Finding) (is : f ≡ found_below m (f
   unfolding verdict_in
   verdict_18 x y p e = e ∙ sym (also_refused _ _ x y p (sym loose_is ∙ e))
 
-  pub verdict_19 : v ≡ Passed → (g : Finding) → g ≡ found_below m (first (elsewhere_in T L H) 0 m) → (w : Verdict) → w ≡ finding_verdict NAME_TWICE NONE g → w ≡ verdict_in T L H m
+  pub verdict_19 : v ≡ Passed → (g : Option ℕ) → g ≡ found_below m (first (elsewhere_in T L H) 0 m) → (w : Verdict) → w ≡ finding_verdict NAME_TWICE NONE g → w ≡ verdict_in T L H m
   unfolding verdict_in
   verdict_19 e g at w q = q ∙ ap (finding_verdict NAME_TWICE NONE) at ∙ sym (also_passed _ _ (sym loose_is ∙ e))

@@ -8,9 +8,8 @@ use Rattle.base_fields.specs.Numbers.{encoded}
 use Rattle.base_scope.specs.Elf.{SHN_UNDEF}
 use Rattle.base_scope.specs.Refusals.{LOOSE_SYMBOL, NAME_TWICE, found_below}
 use Rattle.base_scope.specs.Limits.{ID_ROW}
-use Rattle.base_answers.specs.declared.Verdict.{Verdict}
 use Rattle.base_answers.specs.Answers.{NONE}
-use Rattle.base_answers.specs.Verdicts.{also, finding_verdict}
+use Rattle.base_answers.specs.Verdicts.{Verdict, also, finding_verdict}
 use Rattle.symbols_merge.specs.Listed.{listed}
 use Rattle.symbols_rows.specs.Rows.{id_taken, id_section, candidates_in, half_in, loose_in, elsewhere_in}
 

@@ -10,9 +10,8 @@ ghost use Rattle.base_scope.specs.Limits.{ID_LIMIT, ID_ROW};
 ghost use Rattle.symbols_rows.specs.Rows.{kind_word, Fits, id_row, id_row_bytes, half_in, loose_in, elsewhere_in};
 ghost use Rattle.symbols_rows.specs.Steps.{section_group, in_list, ids_of, ids_listed, Listing, Position, Held, Positions, Holders, verdict_in};
 
-use base_answers::Verdict;
+use base_answers::Refusal;
 use base_fields::ByteOrder;
-use base_scope::Finding;
 
 // What the merge asks of an id: whether it is taken, has no name, or the name `_gp_disp`; its binding; its section and value in the result.
 #[derive(Clone, Copy)]
@@ -103,10 +102,8 @@ fn append_group(rows: &[u8], n: usize, group: u32, m: usize, list: &mut [u8]) ->
     ensures { Listing (ids_of rows.now n group) m result list.old list.new }
 {
     let mut r = m;
-    let mut i: usize = 0;
-    while i < n {
+    for i in 0..n {
         r = append_id(rows, group, i, r, list);
-        i += 1;
     }
     r
 }
@@ -149,18 +146,16 @@ fn is_loose(rows: &[u8], list: &[u8], p: usize) -> bool
 }
 
 // 18, over m positions.
-pub fn loose_fault(rows: &[u8], list: &[u8], m: usize) -> Finding
+pub fn loose_fault(rows: &[u8], list: &[u8], m: usize) -> Option<usize>
     requires { Positions rows.now list.now m }
     ensures { result ≡ found_below m (first (loose_in rows.now list.now) 0 m) }
 {
-    let mut p: usize = 0;
-    while p < m {
+    for p in 0..m {
         if is_loose(rows, list, p) {
-            return Finding::At(p);
+            return Some(p);
         }
-        p += 1;
     }
-    Finding::Clear
+    None
 }
 
 // Whether position p is defined, and not where its holder is.
@@ -180,33 +175,25 @@ fn is_elsewhere(rows: &[u8], list: &[u8], holders: &[u8], p: usize) -> bool
 }
 
 // 19, over m positions.
-pub fn elsewhere_fault(rows: &[u8], list: &[u8], holders: &[u8], m: usize) -> Finding
+pub fn elsewhere_fault(rows: &[u8], list: &[u8], holders: &[u8], m: usize) -> Option<usize>
     requires { Holders rows.now list.now holders.now m }
     ensures { result ≡ found_below m (first (elsewhere_in rows.now list.now holders.now) 0 m) }
 {
-    let mut p: usize = 0;
-    while p < m {
+    for p in 0..m {
         if is_elsewhere(rows, list, holders, p) {
-            return Finding::At(p);
+            return Some(p);
         }
-        p += 1;
     }
-    Finding::Clear
+    None
 }
 
 // 18, then 19.
-pub fn symbols_verdict(rows: &[u8], list: &[u8], holders: &[u8], m: usize) -> Verdict
+pub fn symbols_verdict(rows: &[u8], list: &[u8], holders: &[u8], m: usize) -> Result<(), Refusal>
     requires { Holders rows.now list.now holders.now m }
     ensures { result ≡ verdict_in rows.now list.now holders.now m }
 {
-    let loose = base_answers::finding_verdict(
-        base_scope::LOOSE_SYMBOL,
-        base_answers::NONE,
-        loose_fault(rows, list, m),
-    );
-    if let Verdict::Passed = loose {
-        let twice = elsewhere_fault(rows, list, holders, m);
-        return base_answers::finding_verdict(base_scope::NAME_TWICE, base_answers::NONE, twice);
-    }
-    loose
+    let loose = loose_fault(rows, list, m);
+    base_answers::finding_verdict(base_scope::LOOSE_SYMBOL, base_answers::NONE, loose)?;
+    let twice = elsewhere_fault(rows, list, holders, m);
+    base_answers::finding_verdict(base_scope::NAME_TWICE, base_answers::NONE, twice)
 }

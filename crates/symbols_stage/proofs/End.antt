@@ -1,4 +1,5 @@
 -- What the symbol merge answers, step by step: which test decides, and what stands in the buffers where none refuses. Assumes nothing.
+use Rattle.std.specs.Prelude.{None, Some}
 use Prim.Native.Nat.{ℕ, ◌+◌, ◌*◌, ◌≤◌, ◌<◌}
 use mathlib.Core.Path.{◌≡◌, refl, sym, ap, ◌∙◌}
 use mathlib.Core.List.{List}
@@ -12,9 +13,7 @@ use Rattle.base_fields.proofs.Numbers.{number_part}
 use Rattle.base_scope.specs.Limits.{HEAD_LIMIT, ID_LIMIT, STATIC_TABLE, USED_TABLE, LATE_TABLE, GLABEL_TABLE, POSITION_TABLE, PLACE_TABLE}
 use Rattle.base_scope.specs.Codes.{LATE_TARGET}
 use Rattle.base_scope.specs.Refusals.{STATICS}
-use Rattle.base_scope.specs.declared.Finding.TheVariants.{Clear, At}
-use Rattle.base_answers.specs.declared.Verdict.{Verdict}
-use Rattle.base_answers.specs.declared.Verdict.TheVariants.{Passed, Refused}
+use Rattle.base_answers.specs.Verdicts.{Passed, Refused, Verdict}
 use Rattle.base_answers.specs.Answers.{COMPILED}
 use Rattle.base_answers.proofs.Verdicts.{also_passed, also_refused, finding_clear, finding_at}
 use Rattle.elf_readers.specs.Readers.{coded_contents}
@@ -65,16 +64,14 @@ use Rattle.symbols_table.proofs.of_symbols_chain.Result.{chain_tables, chain_fir
 use Rattle.symbols_table.specs.Stage.{TableStage}
 use Rattle.symbols_stage.specs.declared.Manner.{Manner}
 use Rattle.symbols_stage.specs.declared.Counts.{Counts}
-use Rattle.symbols_stage.specs.declared.SymbolsEnd.{SymbolsEnd}
-use Rattle.symbols_stage.specs.declared.SymbolsEnd.TheVariants.{Numbered, Refused as Unnumbered}
 use Rattle.symbols_stage.specs.Verdict.{list_verdict, symbol_stages_verdict}
 use Rattle.symbols_stage.specs.Stage.{SymbolsTaken, StaticsRead, GlabelsRead, IdsListedIn, IdsHeldIn, IdRooms}
-use Rattle.symbols_stage.specs.End.{end_verdict, counts_of, filling_of, numbering_by, NumberedEnd, ListEnd, SymbolsHeld, StaticsEnd, StageEnd}
+use Rattle.symbols_stage.specs.End.{Numbered, SymbolsEnd, end_verdict, counts_of, filling_of, numbering_by, NumberedEnd, ListEnd, SymbolsHeld, StaticsEnd, StageEnd}
 
 same_counts : (a b : Counts) → Numbered a ≡ Numbered b → b ≡ a
 same_counts a b e = cc
 
-never : (x y z : ℕ) (n : Counts) → Unnumbered x y z ≡ Numbered n → ⊥
+never : (x y z : ℕ) (n : Counts) → Refused x y z ≡ Numbered n → ⊥
 never x y z n e = let q : ◌≡◌ {A = ℕ} 0 1 = cc in omega arith
 
 -- ---- 18 and 19, and the numbers
@@ -100,7 +97,7 @@ module _ (T L H : List ℕ) (m : ℕ) where
       tables = λ x q. rw (← w.groups) w;
     }
 
-    pub end_refused : (x y z : ℕ) → v ≡ Refused x y z → NumberedEnd T L H m ids statics (Unnumbered x y z) index
+    pub end_refused : (x y z : ℕ) → v ≡ Refused x y z → NumberedEnd T L H m ids statics (Refused x y z) index
     unfolding end_verdict
     end_refused x y z p = record {
       verdict = sym p ∙ is;
@@ -190,7 +187,7 @@ module _ (C A B : List ℕ) (s : Stage) (w : Manner) (table places steps index :
 
   -- it refuses
   module _ (steps1 : List ℕ) (r : Listing) (u : StaticsRead C o w.mode w.head r steps steps1) where
-    pub statics_refused : (entry : ℕ) → r.fault ≡ At entry → StaticsEnd C A B s w (Unnumbered STATICS COMPILED entry) table table places places steps steps1 index
+    pub statics_refused : (entry : ℕ) → r.fault ≡ Some entry → StaticsEnd C A B s w (Refused STATICS COMPILED entry) table table places places steps steps1 index
     unfolding end_verdict list_verdict
     statics_refused entry e = record {
       verdict = sym (also_refused _ _ STATICS COMPILED entry (finding_at STATICS COMPILED _ entry (sym u.listed.fault ∙ e)));
@@ -264,7 +261,7 @@ module _ (C A B : List ℕ) (s : Stage) (w : Manner) (table places steps index :
         )
 
         -- and the list answers
-        module _ (clear : r.fault ≡ Clear) (e : SymbolsEnd) (table3 places3 steps3 index3 : List ℕ) (same : length index3 ≡ length index)
+        module _ (clear : r.fault ≡ None) (e : SymbolsEnd) (table3 places3 steps3 index3 : List ℕ) (same : length index3 ≡ length index)
             (l : ListEnd C A (filling_of s w.mode r.tally.count) e table table3 places places3 steps2 steps3 index3) where
           abbrev f : Filling
           f = filling_of s w.mode r.tally.count
@@ -391,7 +388,7 @@ module _ (C A B : List ℕ) (s : Stage) (w : Manner) (table places steps index :
             kept_steps = kept_then STATIC_AT steps steps2 steps3 early (kept_less LIST_AT STATIC_AT steps2 steps3 l.kept_steps (omega arith));
           }
 
-        pub statics_end : r.fault ≡ Clear → (x : Filling) → x ≡ filling_of s w.mode r.tally.count → (e : SymbolsEnd) (table3 places3 steps3 index3 : List ℕ)
+        pub statics_end : r.fault ≡ None → (x : Filling) → x ≡ filling_of s w.mode r.tally.count → (e : SymbolsEnd) (table3 places3 steps3 index3 : List ℕ)
             → length index3 ≡ length index → ListEnd C A x e table table3 places places3 steps2 steps3 index3 → StaticsEnd C A B s w e table table3 places places3 steps steps3 index3
         statics_end clear x is e table3 places3 steps3 index3 same l = statics_held clear e table3 places3 steps3 index3 same (rw is at l)
 
@@ -447,7 +444,7 @@ module _ (C A B : List ℕ) (s : Stage) (w : Manner) (table places steps index :
         kept_steps = kept_then USED_AT steps steps1 steps2 t.kept (kept_less STATIC_AT USED_AT steps1 steps2 x.kept_steps (omega arith));
       }
 
-      pub stage_refused : (a b c : ℕ) → v ≡ Refused a b c → StageEnd C A B s w (Unnumbered a b c) table table places places steps steps1 index
+      pub stage_refused : (a b c : ℕ) → v ≡ Refused a b c → StageEnd C A B s w (Refused a b c) table table places places steps steps1 index
       unfolding symbol_stages_verdict end_verdict
       stage_refused a b c p = record {
         verdict = sym (also_refused _ _ a b c (sym taken_as ∙ p));

@@ -10,7 +10,7 @@ use Rattle.base_fields.specs.declared.ByteOrder.TheVariants.{Big}
 use Rattle.base_fields.proofs.Numbers.{number_part}
 use Rattle.base_index.specs.Index.{Room, hash_in}
 use Rattle.base_scope.specs.Limits.{LATE_TABLE, STATIC_TABLE, USED_TABLE, GLABEL_TABLE, SYMBOL_LIMIT, ID_LIMIT, ID_ROW, ID_TABLE, POSITION_TABLE, SYMBOL_INDEX}
-use Rattle.base_answers.specs.declared.Verdict.{Verdict}
+use Rattle.base_answers.specs.Verdicts.{Verdict}
 use Rattle.elf_symbols.specs.Symbols.{symbol_count, symbol_name, Table}
 use Rattle.elf_index.specs.Index.{SymbolIndex}
 use Rattle.elf_check.specs.View.{Viewed}

@@ -1,8 +1,8 @@
 -- Of the code, not of document 01: what the symbol merge answers, and what stands in the working buffers where nothing was refused. C is the compiled object, A the assembled
 -- one, B the block file, whose places stand in the buffer of places.
-use Rattle.std.specs.Prelude.{ℕ, ◌+◌, ◌*◌, ◌≡◌, List, get_or}
-use Rattle.base_answers.specs.declared.Verdict.{Verdict}
-use Rattle.base_answers.specs.declared.Verdict.TheVariants.{Passed, Refused}
+use Rattle.std.specs.Prelude.{ℕ, ◌+◌, ◌*◌, ◌≡◌, List, get_or, Result, Ok, Err}
+use Rattle.base_answers.specs.declared.Refusal.{Refusal}
+use Rattle.base_answers.specs.Verdicts.{Verdict, Passed}
 use Rattle.blocks_places.specs.Lines.{line_count}
 use Rattle.blocks_places.specs.Places.{Place}
 use Rattle.blocks_places.specs.Table.{places_in}
@@ -24,14 +24,19 @@ use Rattle.symbols_table.specs.of_symbols_chain.Chain.{SymbolsListed, SymbolsNum
 use Rattle.symbols_table.specs.Stage.{TableStage}
 use Rattle.symbols_stage.specs.declared.Manner.{Manner}
 use Rattle.symbols_stage.specs.declared.Counts.{Counts}
-use Rattle.symbols_stage.specs.declared.SymbolsEnd.{SymbolsEnd}
-use Rattle.symbols_stage.specs.declared.SymbolsEnd.TheVariants.{Numbered, Refused as Unnumbered}
 use Rattle.symbols_stage.specs.Verdict.{list_verdict, symbol_stages_verdict}
+
+-- the counts of the result, whose symbols are numbered then, or a refusal
+abbrev pub SymbolsEnd : Type 0
+SymbolsEnd = Result Counts Refusal
+
+abbrev pub Numbered : Counts → SymbolsEnd
+Numbered n = Ok n
 
 -- an answer as a verdict
 unfoldable pub end_verdict : SymbolsEnd → Verdict
-end_verdict (Numbered n) = Passed
-end_verdict (Unnumbered number object place) = Refused number object place
+end_verdict (Ok n) = Passed
+end_verdict (Err r) = Err r
 
 -- counts by the starts of the groups; what the rows are filled by
 unfoldable pub counts_of : ℕ → List ℕ → Counts

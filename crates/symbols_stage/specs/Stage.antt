@@ -4,7 +4,7 @@ use Rattle.std.specs.Prelude.{ℕ, ◌+◌, ◌*◌, ◌≤◌, ◌<◌, ◌≡�
 use Rattle.base_lists.specs.Windows.{Within}
 use Rattle.base_fields.specs.declared.ByteOrder.{ByteOrder}
 use Rattle.base_scope.specs.Limits.{ID_LIMIT}
-use Rattle.base_answers.specs.declared.Verdict.{Verdict}
+use Rattle.base_answers.specs.Verdicts.{Verdict}
 use Rattle.elf_symbols.specs.Symbols.{symbol_count, symbol_name}
 use Rattle.blocks_places.specs.Places.{Place}
 use Rattle.base_buffers.specs.Parts.{part_at, KeptBefore}

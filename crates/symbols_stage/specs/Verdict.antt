@@ -3,9 +3,8 @@
 use Rattle.std.specs.Prelude.{ℕ, List}
 use Rattle.base_fields.specs.declared.ByteOrder.{ByteOrder}
 use Rattle.base_scope.specs.Refusals.{STATICS}
-use Rattle.base_answers.specs.declared.Verdict.{Verdict}
 use Rattle.base_answers.specs.Answers.{COMPILED}
-use Rattle.base_answers.specs.Verdicts.{also, finding_verdict}
+use Rattle.base_answers.specs.Verdicts.{Verdict, also, finding_verdict}
 use Rattle.blocks_places.specs.Places.{Place}
 use Rattle.statics_walk.specs.Walk.{statics_fault}
 use Rattle.symbols_merge.specs.Listed.{symbols_verdict}

@@ -25,8 +25,7 @@ ghost use Rattle.symbols_table.specs.of_symbols_chain.Chain.{SymbolsNumbered};
 ghost use Rattle.symbols_stage.specs.Stage.{SymbolsTaken, StaticsRead, GlabelsRead, IdsFilledIn, IdsListedIn, IdsHeldIn, IdRooms, OrderLeft, NumbersLeft};
 ghost use Rattle.symbols_stage.specs.End.{counts_of, filling_of, NumberedEnd, ListEnd, StaticsEnd, StageEnd};
 
-use base_answers::Verdict;
-use base_scope::Finding;
+use base_answers::Refusal;
 use statics_walk::Listing;
 use symbols_table::merge_inputs::Inputs;
 pub use symbols_table::merge_sections;
@@ -43,7 +42,7 @@ pub struct Manner {
 }
 
 // Refusals 15 and 16, by the marks.
-fn taken_verdict(assembled: &[u8], stage: Stage, steps: &[u8]) -> Verdict
+fn taken_verdict(assembled: &[u8], stage: Stage, steps: &[u8]) -> Result<(), Refusal>
     requires { Viewed stage.inputs.order assembled.now stage.inputs.assembled × Within (used_bytes stage.inputs.order assembled.now) 0 (used_part steps.now)
         × LateIn stage.step.runs (late_step_part steps.now) stage.inputs.blocks × (STEP_BUFFER ≤ length steps.now) }
     ensures { result ≡ taken_in stage.inputs.compiled stage.inputs.assembled stage.inputs.order assembled.now stage.step.runs (late_step_part steps.now) stage.inputs.blocks }
@@ -54,7 +53,7 @@ fn taken_verdict(assembled: &[u8], stage: Stage, steps: &[u8]) -> Verdict
 }
 
 // Marks the used symbols: refusals 15 and 16.
-fn take_symbols(assembled: &[u8], stage: Stage, steps: &mut [u8]) -> Verdict
+fn take_symbols(assembled: &[u8], stage: Stage, steps: &mut [u8]) -> Result<(), Refusal>
     requires { Viewed stage.inputs.order assembled.now stage.inputs.assembled × LateIn stage.step.runs (late_step_part steps.old) stage.inputs.blocks
         × (STEP_BUFFER ≤ length steps.old) }
     ensures { SymbolsTaken assembled.now stage result steps.old steps.new }
@@ -270,13 +269,6 @@ pub struct Counts {
     pub count: usize,
 }
 
-// What the symbol merge answers: the counts of the result, whose symbols are numbered then, or a refusal.
-#[derive(Clone, Copy)]
-pub enum SymbolsEnd {
-    Numbered(Counts),
-    Refused(u32, u32, u64),
-}
-
 // The counts by the starts of the groups.
 fn counts_of(statics: usize, starts: [usize; symbols_numbers::STARTS]) -> Counts
     requires { (get_or starts LOCAL_GROUPS 0 ≤ ID_LIMIT) × (get_or starts RESULT_GROUPS 0 ≤ ID_LIMIT) }
@@ -300,17 +292,13 @@ fn number_list(
     list: &[u8],
     holders: &[u8],
     index: &mut [u8],
-) -> SymbolsEnd
+) -> Result<Counts, Refusal>
     requires { Tables rows.now list.now holders.now m × HoldersFirst list.now holders.now m × IdRooms list.now m ids × (INDEX_BUFFER ≤ length index.old) }
     ensures { NumberedEnd rows.now list.now holders.now m ids statics result index.new }
 {
-    match symbols_rows::symbols_verdict(rows, list, holders, m) {
-        Verdict::Passed => {
-            let starts = number_positions(rows, list, holders, m, ids, index);
-            SymbolsEnd::Numbered(counts_of(statics, starts))
-        }
-        Verdict::Refused(number, object, place) => SymbolsEnd::Refused(number, object, place),
-    }
+    symbols_rows::symbols_verdict(rows, list, holders, m)?;
+    let starts = number_positions(rows, list, holders, m, ids, index);
+    Ok(counts_of(statics, starts))
 }
 
 // The rows, the list, the holders; then 18 and 19, and the numbers.
@@ -322,7 +310,7 @@ fn merge_list<'a>(
     places: &mut [u8],
     steps: &mut [u8],
     index: &mut [u8],
-) -> SymbolsEnd
+) -> Result<Counts, Refusal>
     requires { FillReady compiled.now assembled.now (statics_part steps.old) (used_part steps.old) (late_step_part steps.old) filling
         × BuffersHeld table.old places.old steps.old index.old × SymbolIndex filling.inputs.order assembled.now (names_part index.old) }
     ensures { ListEnd compiled.now assembled.now filling result table.old table.new places.old places.new steps.old steps.new index.new }
@@ -375,7 +363,7 @@ fn merge_statics<'a>(
     places: &mut [u8],
     steps: &mut [u8],
     index: &mut [u8],
-) -> SymbolsEnd
+) -> Result<Counts, Refusal>
     requires { StageRead compiled.now assembled.now file.now stage (blocks_part table.old) (places_part places.old)
         × Movable compiled.now file.now stage (places_in (places_part places.old) (line_count file.now)) (late_step_part steps.old)
         × TakenPassed stage.inputs.order compiled.now assembled.now (places_in (places_part places.old) (line_count file.now)) file.now
@@ -387,17 +375,17 @@ fn merge_statics<'a>(
     let listing = read_statics(compiled, inputs, manner.mode, manner.head, steps);
     let fault = listing.fault;
     match fault {
-        Finding::Clear => {
+        None => {
             read_glabels(assembled, file, inputs, table, places, index, steps);
             let tally = listing.tally;
             let filling = filling_of(stage, manner.mode, tally.count);
             merge_list(compiled, assembled, filling, table, places, steps, index)
         }
-        Finding::At(entry) => SymbolsEnd::Refused(
-            base_scope::STATICS,
-            base_answers::COMPILED,
-            entry as u64,
-        ),
+        Some(entry) => Err(Refusal {
+            number: base_scope::STATICS,
+            object: base_answers::COMPILED,
+            place: entry as u64,
+        }),
     }
 }
 
@@ -413,16 +401,14 @@ pub fn merge_symbols<'a>(
     places: &mut [u8],
     steps: &mut [u8],
     index: &mut [u8],
-) -> SymbolsEnd
+) -> Result<Counts, Refusal>
     requires { StageRead compiled.now assembled.now file.now stage (blocks_part table.old) (places_part places.old)
         × Movable compiled.now file.now stage (places_in (places_part places.old) (line_count file.now)) (late_step_part steps.old) × (manner.head ≤ HEAD_LIMIT)
         × BuffersHeld table.old places.old steps.old index.old × SymbolIndex stage.inputs.order assembled.now (names_part index.old) }
     ensures { StageEnd compiled.now assembled.now file.now stage manner result table.old table.new places.old places.new steps.old steps.new index.new }
 {
-    match take_symbols(assembled, stage, steps) {
-        Verdict::Passed => merge_statics(
-            compiled, assembled, file, stage, manner, table, places, steps, index,
-        ),
-        Verdict::Refused(number, object, place) => SymbolsEnd::Refused(number, object, place),
-    }
+    take_symbols(assembled, stage, steps)?;
+    merge_statics(
+        compiled, assembled, file, stage, manner, table, places, steps, index,
+    )
 }

@@ -96,11 +96,9 @@ pub fn write_symbols<'a>(
     let filling = n.filling;
     let inputs = filling.inputs;
     let endian = inputs.order;
-    let mut k: usize = 0;
-    while k < n.count {
+    for k in 0..n.count {
         let e = entry_at(compiled, assembled, statics, marks, rows, list, order, n, k);
         e.write(endian, out, at + SymbolEntry::SIZE * k);
-        k += 1;
     }
-    at + SymbolEntry::SIZE * k
+    at + SymbolEntry::SIZE * n.count
 }

@@ -1,4 +1,5 @@
 -- 15 and 16 as the code finds them: what each way through the tests of a symbol says, and what the end of each search. Assumes nothing.
+use Rattle.std.specs.Prelude.{None, Some, Option}
 use Prim.Native.Nat.{ℕ, ◌+◌, ◌≤◌, ◌<◌}
 use mathlib.Core.Path.{◌≡◌, refl, sym, ap, ◌∙◌}
 use mathlib.Core.Bool.{Bool, true, false, not, ◌&&◌, ◌||◌}
@@ -11,20 +12,14 @@ use Rattle.base_lists.proofs.Ranges.{by-test}
 use Rattle.base_fields.specs.declared.ByteOrder.{ByteOrder}
 use Rattle.base_scope.specs.Codes.{LATE_RODATA, CODES, target_code}
 use Rattle.base_scope.specs.Elf.{SHN_UNDEF, SHN_ABS}
-use Rattle.base_scope.specs.declared.Finding.{Finding}
-use Rattle.base_scope.specs.declared.Finding.TheVariants.{Clear, At}
 use Rattle.base_scope.specs.Refusals.{SYMBOL_SECTION, LATE_SYMBOL, found_below}
-use Rattle.base_answers.specs.declared.Verdict.{Verdict}
-use Rattle.base_answers.specs.declared.Verdict.TheVariants.{Passed, Refused}
 use Rattle.base_answers.specs.Answers.{ASSEMBLED}
-use Rattle.base_answers.specs.Verdicts.{finding_verdict}
+use Rattle.base_answers.specs.Verdicts.{Passed, Refused, Verdict, finding_verdict}
 use Rattle.base_answers.proofs.Verdicts.{also_passed, also_refused}
 use Rattle.elf_records.specs.declared.symbol.SymbolEntry.{SymbolEntry}
 use Rattle.elf_symbols.specs.Symbols.{symbol_count, symbol}
 use Rattle.merge_inputs.specs.of_elf_check.declared.View.{View}
 use Rattle.merge_inputs.specs.of_elf_check.View.{view_of, has_in}
-use Rattle.late_lookups.specs.declared.LatePlace.{LatePlace}
-use Rattle.late_lookups.specs.declared.LatePlace.TheVariants.{Moved, Unmoved}
 use Rattle.late_lookups.specs.Fields.{offset_at}
 use Rattle.symbols_taken.specs.Used.{code_of, is_used}
 use Rattle.symbols_taken.specs.Taken.{is_helper, is_placed_in, is_taken_a, symbol_code}
@@ -84,31 +79,31 @@ module _ (w v : View) (o : ByteOrder) (A : List ℕ) (k : ℕ) where
     homeless_not u = rw (f, u)
 
 -- a search for a fault, by its end
-found_at : (p : ℕ → Bool) (n i : ℕ) → i < n → first p 0 n ≡ i → At i ≡ found_below n (first p 0 n)
+found_at : (p : ℕ → Bool) (n i : ℕ) → i < n → first p 0 n ≡ i → Some i ≡ found_below n (first p 0 n)
 unfolding found_below
 found_at p n i h e = rw (e, lt-ltb i n h)
 
-found_none : (p : ℕ → Bool) (n : ℕ) → first p 0 n ≡ n → Clear ≡ found_below n (first p 0 n)
+found_none : (p : ℕ → Bool) (n : ℕ) → first p 0 n ≡ n → None ≡ found_below n (first p 0 n)
 unfolding found_below
 found_none p n e = rw (e, le-ltb n n (omega arith))
 
 module _ (w v : View) (o : ByteOrder) (A : List ℕ) (n : ℕ) (many : n ≡ symbol_count o A) where
-  pub homeless_at_lem : (i : ℕ) → i < n → first (is_homeless_in w v o A) 0 n ≡ i → At i ≡ found_below (symbol_count o A) (homeless_in w v o A)
+  pub homeless_at_lem : (i : ℕ) → i < n → first (is_homeless_in w v o A) 0 n ≡ i → Some i ≡ found_below (symbol_count o A) (homeless_in w v o A)
   unfolding homeless_in
   homeless_at_lem i h e = rw (← many) (found_at (is_homeless_in w v o A) n i h e)
 
-  pub homeless_none : first (is_homeless_in w v o A) 0 n ≡ n → Clear ≡ found_below (symbol_count o A) (homeless_in w v o A)
+  pub homeless_none : first (is_homeless_in w v o A) 0 n ≡ n → None ≡ found_below (symbol_count o A) (homeless_in w v o A)
   unfolding homeless_in
   homeless_none e = rw (← many) (found_none (is_homeless_in w v o A) n e)
 
 -- ---- refusal 16
 
 module _ (runs : Bool) (late : List ℕ) (n x : ℕ) where
-  pub moved_yes : (r : LatePlace) (p : ℕ) → runs ≡ true → r ≡ offset_at late n x → r ≡ Moved p → true ≡ is_moved_in runs late n x
+  pub moved_yes : (r : Option ℕ) (p : ℕ) → runs ≡ true → r ≡ offset_at late n x → r ≡ Some p → true ≡ is_moved_in runs late n x
   unfolding is_moved_in
   moved_yes r p t e m = rw (t, ← e, m)
 
-  pub moved_no : (r : LatePlace) → runs ≡ true → r ≡ offset_at late n x → r ≡ Unmoved → false ≡ is_moved_in runs late n x
+  pub moved_no : (r : Option ℕ) → runs ≡ true → r ≡ offset_at late n x → r ≡ None → false ≡ is_moved_in runs late n x
   unfolding is_moved_in
   moved_no r t e m = rw (t, ← e, m)
 
@@ -144,24 +139,24 @@ module _ (o : ByteOrder) (A : List ℕ) (runs : Bool) (late : List ℕ) (n k : �
   unmoved_left f = rw f
 
 module _ (o : ByteOrder) (A : List ℕ) (runs : Bool) (late : List ℕ) (blocks n : ℕ) (many : n ≡ symbol_count o A) where
-  pub unmoved_at_lem : (i : ℕ) → i < n → first (is_unmoved_in o A runs late blocks) 0 n ≡ i → At i ≡ found_below (symbol_count o A) (unmoved_in o A runs late blocks)
+  pub unmoved_at_lem : (i : ℕ) → i < n → first (is_unmoved_in o A runs late blocks) 0 n ≡ i → Some i ≡ found_below (symbol_count o A) (unmoved_in o A runs late blocks)
   unfolding unmoved_in
   unmoved_at_lem i h e = rw (← many) (found_at (is_unmoved_in o A runs late blocks) n i h e)
 
-  pub unmoved_none : first (is_unmoved_in o A runs late blocks) 0 n ≡ n → Clear ≡ found_below (symbol_count o A) (unmoved_in o A runs late blocks)
+  pub unmoved_none : first (is_unmoved_in o A runs late blocks) 0 n ≡ n → None ≡ found_below (symbol_count o A) (unmoved_in o A runs late blocks)
   unfolding unmoved_in
   unmoved_none e = rw (← many) (found_none (is_unmoved_in o A runs late blocks) n e)
 
 -- ---- refusals 15 and 16
 
 module _ (w v : View) (o : ByteOrder) (A : List ℕ) (runs : Bool) (late : List ℕ) (n : ℕ)
-    (f : Finding) (homeless : f ≡ found_below (symbol_count o A) (homeless_in w v o A)) (x : Verdict) (is : x ≡ finding_verdict SYMBOL_SECTION ASSEMBLED f) where
+    (f : Option ℕ) (homeless : f ≡ found_below (symbol_count o A) (homeless_in w v o A)) (x : Verdict) (is : x ≡ finding_verdict SYMBOL_SECTION ASSEMBLED f) where
   pub verdict_homeless : (a b c : ℕ) → x ≡ Refused a b c → x ≡ taken_in w v o A runs late n
   unfolding taken_in
   verdict_homeless a b c e =
       e ∙ sym (also_refused (finding_verdict SYMBOL_SECTION ASSEMBLED (found_below (symbol_count o A) (homeless_in w v o A))) _ a b c (rw (← homeless) (sym is ∙ e)))
 
-  pub verdict_unmoved : x ≡ Passed → (g : Finding) → g ≡ found_below (symbol_count o A) (unmoved_in o A runs late n)
+  pub verdict_unmoved : x ≡ Passed → (g : Option ℕ) → g ≡ found_below (symbol_count o A) (unmoved_in o A runs late n)
       → (y : Verdict) → y ≡ finding_verdict LATE_SYMBOL ASSEMBLED g → y ≡ taken_in w v o A runs late n
   unfolding taken_in
   verdict_unmoved e g unmoved y to =

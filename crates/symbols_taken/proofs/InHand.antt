@@ -1,4 +1,5 @@
 -- What the code reads by the views of C and A and in the table of the late step is what the definitions say of C, A, P and B. Assumes nothing.
+use Rattle.std.specs.Prelude.{None, Some}
 use Prim.Native.Nat.{ℕ}
 use mathlib.Core.Path.{◌≡◌, refl, sym, ◌∙◌}
 use mathlib.Core.Bool.{Bool, true, false}
@@ -13,7 +14,6 @@ use Rattle.merge_inputs.proofs.of_elf_check.Views.{view_has}
 use Rattle.merge_inputs.specs.of_blocks_places.Places.{Place}
 use Rattle.late_lookups.specs.of_late_moves.Moved.{is_moved, moved_place}
 use Rattle.late_lookups.proofs.of_late_moves.Idle.{idle_moved}
-use Rattle.late_lookups.specs.declared.LatePlace.TheVariants.{Moved, Unmoved}
 use Rattle.late_lookups.specs.Fields.{pick_late_place}
 use Rattle.late_lookups.specs.Lookups.{moved_offset}
 use Rattle.late_lookups.proofs.Lookups.{late_rows, offset_moved}
@@ -30,7 +30,7 @@ module _ (o : ByteOrder) (A : List ℕ) (P : List Place) (B : List ℕ) (runs : 
   pub step_late : LateIn runs late n
   step_late t = rw s.many (late_rows o P B s.searched (late_start o A) late (s.moves t))
 
-  is_place_lem : (b : Bool) (p : ℕ) → is_place (pick_late_place b (Moved p) Unmoved) ≡ b
+  is_place_lem : (b : Bool) (p : ℕ) → is_place (pick_late_place b (Some p) None) ≡ b
   is_place_lem true p = refl
   is_place_lem false p = refl
 

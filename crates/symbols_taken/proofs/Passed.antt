@@ -1,4 +1,5 @@
 -- What 15 and 16 leave true: each is a search that found no symbol, so no symbol is at fault by either. Assumes nothing.
+use Rattle.std.specs.Prelude.{None}
 use Prim.Native.Nat.{ℕ, ◌<◌}
 use mathlib.Core.Path.{◌≡◌, refl}
 use mathlib.Core.Bool.{Bool, true, false, not, ◌&&◌, ◌||◌}
@@ -10,12 +11,10 @@ use Rattle.base_lists.proofs.Ranges.{by-test, or_parts, and_parts}
 use Rattle.base_fields.specs.declared.ByteOrder.{ByteOrder}
 use Rattle.base_scope.specs.Codes.{LATE_RODATA, target_code}
 use Rattle.base_scope.specs.Elf.{SHN_UNDEF, SHN_ABS}
-use Rattle.base_scope.specs.declared.Finding.TheVariants.{Clear}
 use Rattle.base_scope.specs.Refusals.{SYMBOL_SECTION, LATE_SYMBOL, found_below}
 use Rattle.base_scope.proofs.Refusals.{none_found}
-use Rattle.base_answers.specs.declared.Verdict.TheVariants.{Passed}
 use Rattle.base_answers.specs.Answers.{ASSEMBLED}
-use Rattle.base_answers.specs.Verdicts.{finding_verdict}
+use Rattle.base_answers.specs.Verdicts.{Passed, finding_verdict}
 use Rattle.base_answers.proofs.Verdicts.{also_parts, finding_passed}
 use Rattle.elf_readers.specs.Readers.{has_code}
 use Rattle.elf_symbols.specs.Symbols.{symbol_count, symbol}
@@ -84,11 +83,11 @@ module _ (o : ByteOrder) (A : List ℕ) (P : List Place) (B : List ℕ) (k : ℕ
 -- ---- all of them
 
 module _ (o : ByteOrder) (C A : List ℕ) (P : List Place) (B : List ℕ) where
-  homeless_none : found_below (symbol_count o A) (homeless_at o C A) ≡ Clear → (k : ℕ) → k < symbol_count o A → is_homeless o C A k ≡ false
+  homeless_none : found_below (symbol_count o A) (homeless_at o C A) ≡ None → (k : ℕ) → k < symbol_count o A → is_homeless o C A k ≡ false
   unfolding homeless_at
   homeless_none e = none_found (is_homeless o C A) (symbol_count o A) e
 
-  unmoved_none : found_below (symbol_count o A) (unmoved_at o A P B) ≡ Clear → (k : ℕ) → k < symbol_count o A → is_unmoved o A P B k ≡ false
+  unmoved_none : found_below (symbol_count o A) (unmoved_at o A P B) ≡ None → (k : ℕ) → k < symbol_count o A → is_unmoved o A P B k ≡ false
   unfolding unmoved_at
   unmoved_none e = none_found (is_unmoved o A P B) (symbol_count o A) e
 

@@ -1,15 +1,14 @@
 -- Of the code, not of document 01: what the code reads in place of C, of the block file and of A's relocations. C and the codes of A's sections are read by their views, the
 -- moves of the late step in its table of n blocks, and whether a symbol is used in a byte for each. proofs/InHand.antt says what each is of C, A, P and B.
-use Rattle.std.specs.Prelude.{ℕ, ◌+◌, ◌<◌, ◌≡◌, Bool, true, false, cond, not, ◌&&◌, ◌||◌, List, length, get_or, eqb, ltb}
+use Rattle.std.specs.Prelude.{ℕ, ◌+◌, ◌<◌, ◌≡◌, Bool, true, false, cond, not, ◌&&◌, ◌||◌, List, length, get_or, eqb, ltb, None, Some, Option}
 use Rattle.base_lists.specs.Ranges.{first, select}
 use Rattle.base_lists.specs.Rows.{has_row}
 use Rattle.base_lists.specs.Windows.{Within}
 use Rattle.base_fields.specs.declared.ByteOrder.{ByteOrder}
 use Rattle.base_scope.specs.Codes.{TEXT, LATE_RODATA, target_code}
 use Rattle.base_scope.specs.Refusals.{SYMBOL_SECTION, LATE_SYMBOL, found_below}
-use Rattle.base_answers.specs.declared.Verdict.{Verdict}
 use Rattle.base_answers.specs.Answers.{ASSEMBLED}
-use Rattle.base_answers.specs.Verdicts.{also, finding_verdict}
+use Rattle.base_answers.specs.Verdicts.{Verdict, also, finding_verdict}
 use Rattle.elf_symbols.specs.Symbols.{symbol_count, symbol, symbol_strings}
 use Rattle.elf_relocations.specs.Relocations.{relocation_count}
 use Rattle.merge_inputs.specs.of_elf_check.declared.View.{View}
@@ -18,8 +17,6 @@ use Rattle.blocks_file.specs.Blocks.{block_count}
 use Rattle.merge_inputs.specs.of_blocks_places.Places.{Place}
 use Rattle.late_lookups.specs.of_late_length.Late.{has_late_step}
 use Rattle.late_lookups.specs.of_late_walk.Table.{Moves}
-use Rattle.late_lookups.specs.declared.LatePlace.{LatePlace}
-use Rattle.late_lookups.specs.declared.LatePlace.TheVariants.{Moved, Unmoved}
 use Rattle.late_lookups.specs.Fields.{offset_at, LateRows}
 use Rattle.merge_labels.specs.Labels.{late_start}
 use Rattle.symbols_taken.specs.Used.{uses_symbol, is_used}
@@ -86,9 +83,9 @@ module _ (w v : View) (o : ByteOrder) (A : List ℕ) where
 abbrev pub LateIn : Bool → List ℕ → ℕ → Type 0
 LateIn runs late n = runs ≡ true → LateRows late n
 
-abbrev pub is_place : LatePlace → Bool
-is_place (Moved x) = true
-is_place Unmoved = false
+abbrev pub is_place : Option ℕ → Bool
+is_place (Some x) = true
+is_place None = false
 
 unfoldable pub is_moved_in : Bool → List ℕ → ℕ → ℕ → Bool
 is_moved_in runs late n x = runs && is_place (offset_at late n x)

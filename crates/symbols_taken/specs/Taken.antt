@@ -1,17 +1,15 @@
 -- Which symbols a merge takes over from the compiled object C and the assembled object A (document 01, "Symbols"), and refusals 15 and 16 (its table). P are the places of the
 -- lines of the block file B.
-use Rattle.std.specs.Prelude.{ℕ, Bool, not, ◌&&◌, ◌||◌, List, eqb, ltb}
+use Rattle.std.specs.Prelude.{ℕ, Bool, not, ◌&&◌, ◌||◌, List, eqb, ltb, Option}
 use Rattle.base_lists.specs.Ranges.{first}
 use Rattle.base_lists.specs.Strings.{prefixed}
 use Rattle.base_fields.specs.declared.ByteOrder.{ByteOrder}
 use Rattle.base_scope.specs.Text.{text}
 use Rattle.base_scope.specs.Elf.{SHN_UNDEF, SHN_ABS}
 use Rattle.base_scope.specs.Codes.{LATE_RODATA, target_code}
-use Rattle.base_scope.specs.declared.Finding.{Finding}
 use Rattle.base_scope.specs.Refusals.{SYMBOL_SECTION, LATE_SYMBOL, found_below}
-use Rattle.base_answers.specs.declared.Verdict.{Verdict}
 use Rattle.base_answers.specs.Answers.{ASSEMBLED}
-use Rattle.base_answers.specs.Verdicts.{also, finding_verdict}
+use Rattle.base_answers.specs.Verdicts.{Verdict, also, finding_verdict}
 use Rattle.elf_readers.specs.Readers.{section, has_code}
 use Rattle.elf_symbols.specs.Symbols.{symtab, symbol_count, symbol, symbol_name}
 use Rattle.merge_inputs.specs.of_blocks_places.Places.{Place}

@@ -19,11 +19,9 @@ ghost use Rattle.symbols_taken.specs.Used.{is_source_table, is_used};
 ghost use Rattle.symbols_taken.specs.Taken.{is_helper, is_taken_c, is_taken_a};
 ghost use Rattle.symbols_taken.specs.Code.{is_section_in, code_in, is_source_in, marked, used_in, used_bytes, AtSymbol, has_target_in, lacks_target_in, is_homeless_in, homeless_in, LateIn, is_moved_in, is_unmoved_value, is_unmoved_in, unmoved_in, taken_in};
 
-use base_answers::Verdict;
+use base_answers::Refusal;
 use base_fields::ByteOrder;
-use base_scope::Finding;
 pub use late_lookups;
-use late_lookups::LatePlace;
 use late_lookups::late_length::LateStep;
 pub use merge_inputs;
 use merge_inputs::Inputs;
@@ -42,14 +40,13 @@ fn is_section_in(view: View, s: usize, code: u32) -> bool
 pub fn code_of(view: View, s: usize) -> u32
     ensures { (result ≡ code_in view s) × (1 ≤ result) × (result ≤ LATE_RODATA + 1) }
 {
-    let mut code = base_scope::TEXT;
-    while code <= base_scope::LATE_RODATA {
+    let past = base_scope::LATE_RODATA + 1;
+    for code in base_scope::TEXT..past {
         if is_section_in(view, s, code) {
             return code;
         }
-        code += 1;
     }
-    code
+    past
 }
 
 // Whether section s is one of the five.
@@ -91,11 +88,9 @@ fn mark_entries(order: ByteOrder, assembled: &[u8], t: usize, used: &mut [u8])
     let at = h.sh_offset as usize;
     let size = elf_relocations::entry_size(order, assembled, t);
     let n = elf_relocations::relocation_count(order, assembled, t);
-    let mut j: usize = 0;
-    while j < n {
+    for j in 0..n {
         let info = base_fields::read32(order, assembled, at + size * j + 4);
         mark_symbol(info, used);
-        j += 1;
     }
 }
 
@@ -116,10 +111,8 @@ fn mark_tables(order: ByteOrder, assembled: &[u8], view: View, used: &mut [u8])
 {
     base_buffers::zero(used);
     let n = view.sections;
-    let mut t: usize = 0;
-    while t < n {
+    for t in 0..n {
         mark_table(order, assembled, view, t, used);
-        t += 1;
     }
 }
 
@@ -248,21 +241,19 @@ pub fn homeless_fault(
     compiled: View,
     view: View,
     used: &[u8],
-) -> Finding
+) -> Option<usize>
     requires { Viewed order assembled.now view × Within (used_bytes order assembled.now) 0 used.now }
     ensures { result ≡ found_below (symbol_count order assembled.now) (homeless_in compiled view order assembled.now) }
 {
     let symbols = view.symbols;
     let strings = elf_symbols::strings_of(assembled, symbols);
     let n = symbols.count;
-    let mut k: usize = 0;
-    while k < n {
+    for k in 0..n {
         if is_homeless(order, assembled, compiled, view, strings, used, k) {
-            return Finding::At(k);
+            return Some(k);
         }
-        k += 1;
     }
-    Finding::Clear
+    None
 }
 
 // Whether a late offset is moved, by the table of `blocks` blocks: none is where the late step does not run, and the table is not read.
@@ -272,8 +263,8 @@ pub fn is_moved(runs: bool, late: &[u8], blocks: usize, x: u32) -> bool
 {
     if runs {
         return match late_lookups::offset_at(late, blocks, x) {
-            LatePlace::Moved(_) => true,
-            LatePlace::Unmoved => false,
+            Some(_) => true,
+            None => false,
         };
     }
     false
@@ -336,21 +327,19 @@ pub fn unmoved_fault(
     runs: bool,
     late: &[u8],
     blocks: usize,
-) -> Finding
+) -> Option<usize>
     requires { Viewed order assembled.now view × Within (used_bytes order assembled.now) 0 used.now × LateIn runs late.now blocks }
     ensures { result ≡ found_below (symbol_count order assembled.now) (unmoved_in order assembled.now runs late.now blocks) }
 {
     let symbols = view.symbols;
     let strings = elf_symbols::strings_of(assembled, symbols);
     let n = symbols.count;
-    let mut k: usize = 0;
-    while k < n {
+    for k in 0..n {
         if is_unmoved(order, assembled, view, strings, used, runs, late, blocks, k) {
-            return Finding::At(k);
+            return Some(k);
         }
-        k += 1;
     }
-    Finding::Clear
+    None
 }
 
 // Refusals 15 and 16. `used` has the marks, `late` the table of the late step where it runs.
@@ -360,7 +349,7 @@ pub fn taken_verdict(
     step: LateStep,
     late: &[u8],
     used: &[u8],
-) -> Verdict
+) -> Result<(), Refusal>
     requires { Viewed inputs.order assembled.now inputs.assembled × Within (used_bytes inputs.order assembled.now) 0 used.now
         × LateIn step.runs late.now inputs.blocks }
     ensures { result ≡ taken_in inputs.compiled inputs.assembled inputs.order assembled.now step.runs late.now inputs.blocks }
@@ -369,20 +358,13 @@ pub fn taken_verdict(
     let target = inputs.compiled;
     let source = inputs.assembled;
     let homeless = homeless_fault(order, assembled, target, source, used);
-    let verdict = base_answers::finding_verdict(
+    base_answers::finding_verdict(
         base_scope::SYMBOL_SECTION,
         base_answers::ASSEMBLED,
         homeless,
-    );
-    if let Verdict::Passed = verdict {
-        let runs = step.runs;
-        let blocks = inputs.blocks;
-        let unmoved = unmoved_fault(order, assembled, source, used, runs, late, blocks);
-        return base_answers::finding_verdict(
-            base_scope::LATE_SYMBOL,
-            base_answers::ASSEMBLED,
-            unmoved,
-        );
-    }
-    verdict
+    )?;
+    let runs = step.runs;
+    let blocks = inputs.blocks;
+    let unmoved = unmoved_fault(order, assembled, source, used, runs, late, blocks);
+    base_answers::finding_verdict(base_scope::LATE_SYMBOL, base_answers::ASSEMBLED, unmoved)
 }

@@ -208,12 +208,10 @@ pub fn append_new_names(
     ensures { Written out.old at (new_names_in order assembled.now homes.now n stay count) result out.new × (result ≤ at + 13 * count) }
 {
     let mut next = at;
-    let mut i: usize = 0;
-    while i < count {
+    for i in 0..count {
         next = append_new_name(
             out, next, order, assembled, source, homes, n, stay, count, i,
         );
-        i += 1;
     }
     next
 }

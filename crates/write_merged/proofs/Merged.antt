@@ -1,4 +1,5 @@
 -- The plan in hand: how many sections it has, that its object has less than 2 ^ 32 bytes, and which of its sections can move. Assumes nothing.
+use Rattle.std.specs.Prelude.{None, Some}
 use Prim.Native.Nat.{ℕ, ◌+◌, ◌-◌, ◌*◌, ◌^◌, ◌≤◌, ◌<◌}
 use mathlib.Core.Path.{◌≡◌, refl, sym, ap, ◌∙◌}
 use mathlib.Core.Logic.{◌≢◌, ◌⊎◌, inl, inr, ⊎_elim}
@@ -18,7 +19,6 @@ use Rattle.base_scope.specs.Elf.{SHT_RELA, SHT_REL, SHT_MIPS_DEBUG, SHT_NULL, SH
 use Rattle.base_scope.specs.Codes.{LINES, target_code}
 use Rattle.base_scope.specs.Limits.{SECTION_LIMIT, ALIGN_LIMIT}
 use Rattle.base_scope.specs.Refusals.{STATICS}
-use Rattle.base_scope.specs.declared.Finding.TheVariants.{Clear, At}
 use Rattle.base_answers.specs.Answers.{refused, COMPILED, room_for}
 use Rattle.base_answers.specs.Verdicts.{if_passed, finding_verdict}
 use Rattle.elf_records.specs.declared.section.SectionHeader.{SectionHeader}
@@ -300,11 +300,11 @@ module _ (C A B path : List ℕ) (x : Writing) (table places steps index : List 
 
   -- ---- the answer
 
-  pub answer_clear : (room : ℕ) → moved_finding p o ≡ Clear → room_for (held_object C A B path x places) room ≡ held_answer C A B path x places room
+  pub answer_clear : (room : ℕ) → moved_finding p o ≡ None → room_for (held_object C A B path x places) room ≡ held_answer C A B path x places room
   unfolding merged_answer finding_verdict if_passed
   answer_clear room e = rw e
 
-  pub answer_refused : (room place : ℕ) → moved_finding p o ≡ At place → refused STATICS COMPILED place ≡ held_answer C A B path x places room
+  pub answer_refused : (room place : ℕ) → moved_finding p o ≡ Some place → refused STATICS COMPILED place ≡ held_answer C A B path x places room
   unfolding merged_answer finding_verdict if_passed
   answer_refused room place e = rw e
 
@@ -314,7 +314,7 @@ module _ (C A B path : List ℕ) (x : Writing) (table places steps index : List 
   unfolding merged_object
   object_is = refl
 
-  module _ (clear : moved_finding p o ≡ Clear) where
+  module _ (clear : moved_finding p o ≡ None) where
     pub held_put : (L a b c d : List ℕ) (end at many : ℕ) → end ≡ plan_end p p.many → at ≡ headings_at (layout_of p) → many ≡ p.many
         → image_length (layout_of p) ≤ length L → a ≡ spliced L 0 (elf_bytes o (front_with (header o C) at many))
         → b ≡ spliced a HEADER_END (pieces_of p o p.many) → c ≡ spliced b end (zeros (at - end))

@@ -1,4 +1,5 @@
 -- A writing pass over any plan whose object has less than 2 ^ 32 bytes: the numbers that a step has in hand, and its part of the object. Assumes nothing.
+use Rattle.std.specs.Prelude.{None, Some}
 use Prim.Native.Nat.{ℕ, ◌+◌, ◌-◌, ◌*◌, ◌≤◌, ◌<◌}
 use mathlib.Core.Path.{◌≡◌, refl, sym, ap, ◌∙◌}
 use mathlib.Core.Bool.{Bool, true, false}
@@ -16,7 +17,6 @@ use Rattle.base_lists.proofs.Ranges.{both, first_here, first_next, first_end}
 use Rattle.base_lists.proofs.Windows.{spliced_nil}
 use Rattle.base_buffers.specs.Buffers.{zeros}
 use Rattle.base_fields.specs.declared.ByteOrder.{ByteOrder}
-use Rattle.base_scope.specs.declared.Finding.TheVariants.{Clear, At}
 use Rattle.base_scope.specs.Elf.{SHT_MIPS_DEBUG}
 use Rattle.elf_records.specs.declared.section.SectionHeader.{SectionHeader}
 use Rattle.elf_records.specs.declared.header.ElfHeader.{ElfHeader}
@@ -212,16 +212,16 @@ module _ (p : Plan) (o : ByteOrder) where
 
   -- ---- refusal 17
 
-  finding_yes : ltb (first (fails_to_move p o) 0 p.many) p.many ≡ true → At 0 ≡ moved_finding p o
+  finding_yes : ltb (first (fails_to_move p o) 0 p.many) p.many ≡ true → Some 0 ≡ moved_finding p o
   unfolding moved_finding
   finding_yes t = rw t
 
-  finding_no : ltb (first (fails_to_move p o) 0 p.many) p.many ≡ false → Clear ≡ moved_finding p o
+  finding_no : ltb (first (fails_to_move p o) 0 p.many) p.many ≡ false → None ≡ moved_finding p o
   unfolding moved_finding
   finding_no f = rw f
 
   module _ (i n : ℕ) (whole : n ≡ p.many) (before : first (fails_to_move p o) 0 n ≡ first (fails_to_move p o) i n) where
-    pub fault_here : i < n → fails_to_move p o i ≡ true → At 0 ≡ moved_finding p o
+    pub fault_here : i < n → fails_to_move p o i ≡ true → Some 0 ≡ moved_finding p o
     fault_here h t =
         let e : ltb (first (fails_to_move p o) 0 n) n ≡ true = lt-ltb (first (fails_to_move p o) 0 n) n (omega (arith, h, before, first_here (fails_to_move p o) i n h t)) in
         finding_yes (ap (λ (m : ℕ). ltb (first (fails_to_move p o) 0 m) m) (sym whole) ∙ e)
@@ -229,7 +229,7 @@ module _ (p : Plan) (o : ByteOrder) where
     pub fault_next : i < n → fails_to_move p o i ≡ false → first (fails_to_move p o) 0 n ≡ first (fails_to_move p o) (i + 1) n
     fault_next h f = before ∙ first_next (fails_to_move p o) i n h f
 
-    pub fault_none : n ≤ i → Clear ≡ moved_finding p o
+    pub fault_none : n ≤ i → None ≡ moved_finding p o
     fault_none h =
         let e : ltb (first (fails_to_move p o) 0 n) n ≡ false = le-ltb (first (fails_to_move p o) 0 n) n (omega (arith, h, before, first_end (fails_to_move p o) i n h)) in
         finding_no (ap (λ (m : ℕ). ltb (first (fails_to_move p o) 0 m) m) (sym whole) ∙ e)
@@ -243,7 +243,7 @@ module _ (p : Plan) (o : ByteOrder) where
       let e : plan_end p p.many ≤ n = omega (arith, k, plan_behind) in
       (omega (arith, e, plan_first, plan_mono 0 p.many (omega arith)), e, k)
 
-  module _ (clear : moved_finding p o ≡ Clear) where
+  module _ (clear : moved_finding p o ≡ None) where
     pub plan_turn : (L m m' : List ℕ) (i e : ℕ) → i < p.many → e ≡ plan_end p i → plan_end p p.many ≤ length L
         → m ≡ spliced L HEADER_END (pieces_of p o i) → m' ≡ spliced m e (placed_piece p o i) → m' ≡ spliced L HEADER_END (pieces_of p o (i + 1))
     unfolding plan_end

@@ -5,7 +5,6 @@
 ghost use Rattle.std.specs.Prelude.{◌≡◌, true, false, ◌+◌, ◌*◌, ◌≤◌, ◌<◌, length, get_or};
 ghost use Rattle.base_lists.specs.Windows.{spliced};
 ghost use Rattle.base_scope.specs.Codes.{LINES};
-ghost use Rattle.base_scope.specs.declared.Finding.TheVariants.{Clear};
 ghost use Rattle.base_answers.specs.Answers.{room_for};
 ghost use Rattle.base_answers.specs.Answered.{Answered};
 ghost use Rattle.elf_records.specs.Section.{section_bytes};
@@ -18,8 +17,7 @@ ghost use Rattle.write_object.specs.Steps.{placed_piece, pieces_of, headings_of}
 ghost use Rattle.write_planned.specs.Held.{SpansOver, held_plan};
 ghost use Rattle.write_merged.specs.Merged.{opened_as, opened_with, plan_end, MergedReady, MergedSection, MergedStep, held_answer, held_object, held_sized};
 
-use base_answers::Outcome;
-use base_scope::Finding;
+use base_answers::{Outcome, Refusal};
 use carry_homes::TableName;
 use elf_records::SectionHeader;
 pub use write_planned;
@@ -213,13 +211,11 @@ fn measure_sections<'a>(
     ensures { held_sized compiled.now assembled.now file.now path.now x places.now sizes.new × SpansOver index.old index.new }
 {
     let n = section_total(x);
-    let mut i: usize = 0;
-    while i < n {
+    for i in 0..n {
         let size = measure_section(
             compiled, assembled, file, path, x, table, places, steps, index, i,
         );
         sizes[i] = size;
-        i += 1;
     }
 }
 
@@ -275,12 +271,10 @@ fn merged_end<'a>(
 {
     let n = section_total(x);
     let mut end: usize = 52;
-    let mut i: usize = 0;
-    while i < n {
+    for i in 0..n {
         end = merged_after(
             compiled, assembled, file, path, x, table, places, steps, index, sizes, i, end,
         );
-        i += 1;
     }
     end
 }
@@ -329,7 +323,7 @@ fn moved_fault<'a>(
     steps: &[u8],
     index: &mut [u8],
     sizes: &[u32],
-) -> Finding
+) -> Option<usize>
     requires { MergedReady compiled.now assembled.now file.now path.now x table.now places.now steps.now index.old
         × held_sized compiled.now assembled.now file.now path.now x places.now sizes.now }
     ensures { (result ≡ moved_finding (held_plan compiled.now assembled.now file.now path.now x places.now)
@@ -337,19 +331,17 @@ fn moved_fault<'a>(
 {
     let n = section_total(x);
     let mut end: usize = 52;
-    let mut i: usize = 0;
-    while i < n {
+    for i in 0..n {
         if merged_fails(
             compiled, assembled, file, path, x, table, places, steps, index, i, end,
         ) {
-            return Finding::At(0);
+            return Some(0);
         }
         end = merged_after(
             compiled, assembled, file, path, x, table, places, steps, index, sizes, i, end,
         );
-        i += 1;
     }
-    Finding::Clear
+    None
 }
 
 // Writes section i at its place, with zeros from the end of what stands before it, and moves its words where it is a debug section.
@@ -455,7 +447,7 @@ fn write_merged_sections<'a>(
     index: &mut [u8],
 )
     requires { MergedReady compiled.now assembled.now file.now path.now x table.now places.now steps.now index.old × (moved_finding
-        (held_plan compiled.now assembled.now file.now path.now x places.now) x.stage.inputs.order ≡ Clear) × (plan_end
+        (held_plan compiled.now assembled.now file.now path.now x places.now) x.stage.inputs.order ≡ None) × (plan_end
         (held_plan compiled.now assembled.now file.now path.now x places.now)
         (held_plan compiled.now assembled.now file.now path.now x places.now).many ≤ length out.old) }
     ensures { (out.new ≡ spliced out.old HEADER_END (pieces_of
@@ -465,12 +457,10 @@ fn write_merged_sections<'a>(
 {
     let n = section_total(x);
     let mut end: usize = 52;
-    let mut i: usize = 0;
-    while i < n {
+    for i in 0..n {
         end = write_merged_section(
             out, compiled, assembled, file, path, x, table, places, steps, index, i, end,
         );
-        i += 1;
     }
 }
 
@@ -540,8 +530,7 @@ fn write_merged_headings<'a>(
 {
     let n = section_total(x);
     let mut end: usize = 52;
-    let mut i: usize = 0;
-    while i < n {
+    for i in 0..n {
         end = write_merged_heading(
             out,
             at + 40 * i,
@@ -558,7 +547,6 @@ fn write_merged_headings<'a>(
             i,
             end,
         );
-        i += 1;
     }
 }
 
@@ -581,7 +569,7 @@ fn write_merged<'a>(
 )
     requires { MergedReady compiled.now assembled.now file.now path.now x table.now places.now steps.now index.old
         × held_sized compiled.now assembled.now file.now path.now x places.now sizes.now × (moved_finding
-        (held_plan compiled.now assembled.now file.now path.now x places.now) x.stage.inputs.order ≡ Clear) × (end ≡ plan_end
+        (held_plan compiled.now assembled.now file.now path.now x places.now) x.stage.inputs.order ≡ None) × (end ≡ plan_end
         (held_plan compiled.now assembled.now file.now path.now x places.now) (held_plan compiled.now assembled.now file.now path.now x places.now).many)
         × (at ≡ headings_at (layout_of (held_plan compiled.now assembled.now file.now path.now x places.now))) × (many ≡
         (held_plan compiled.now assembled.now file.now path.now x places.now).many)
@@ -619,7 +607,7 @@ fn place_merged<'a>(
 ) -> Outcome
     requires { MergedReady compiled.now assembled.now file.now path.now x table.now places.now steps.now index.old
         × held_sized compiled.now assembled.now file.now path.now x places.now sizes.now × (moved_finding
-        (held_plan compiled.now assembled.now file.now path.now x places.now) x.stage.inputs.order ≡ Clear) }
+        (held_plan compiled.now assembled.now file.now path.now x places.now) x.stage.inputs.order ≡ None) }
     ensures { Answered (room_for (held_object compiled.now assembled.now file.now path.now x places.now) (length
         out.old)) result out.old out.new }
 {
@@ -636,7 +624,11 @@ fn place_merged<'a>(
         );
         return base_answers::result(long as u64);
     }
-    base_answers::refusal(base_scope::OUTPUT_ROOM, base_answers::NONE, long as u64)
+    base_answers::refused(Refusal {
+        number: base_scope::OUTPUT_ROOM,
+        object: base_answers::NONE,
+        place: long as u64,
+    })
 }
 
 // The answer, and the object at the front of the output.
@@ -663,13 +655,13 @@ pub fn merged_answer<'a>(
     match moved_fault(
         compiled, assembled, file, path, x, table, places, steps, index, &sizes,
     ) {
-        Finding::Clear => place_merged(
+        None => place_merged(
             out, compiled, assembled, file, path, x, table, places, steps, index, &sizes,
         ),
-        Finding::At(place) => base_answers::refusal(
-            base_scope::STATICS,
-            base_answers::COMPILED,
-            place as u64,
-        ),
+        Some(place) => base_answers::refused(Refusal {
+            number: base_scope::STATICS,
+            object: base_answers::COMPILED,
+            place: place as u64,
+        }),
     }
 }

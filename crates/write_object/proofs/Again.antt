@@ -1,10 +1,10 @@
 -- An object that was written again holds the sections of the file, under their names. Assumes nothing.
+use Rattle.std.specs.Prelude.{None}
 use Prim.Native.Nat.{ℕ, ◌<◌}
 use mathlib.Core.Path.{◌≡◌, refl, ◌∙◌}
 use mathlib.Core.Bool.{true, false}
 use mathlib.Core.List.{List}
 use Rattle.base_fields.specs.declared.ByteOrder.{ByteOrder}
-use Rattle.base_scope.specs.declared.Finding.TheVariants.{Clear}
 use Rattle.elf_readers.specs.Readers.{header, section_count, section, contents, section_strings, section_name}
 use Rattle.write_object.specs.Object.{has_place, is_moved_debug, moved_finding}
 use Rattle.write_object.specs.Own.{own_plan, own_object}
@@ -12,7 +12,7 @@ use Rattle.write_object.proofs.Content.{content_kept}
 use Rattle.write_object.proofs.ReadBack.{count_back, contents_back, name_back}
 use Rattle.write_object.proofs.Own.{own_ident}
 
-module _ (o : ByteOrder) (F : List ℕ) (clear : moved_finding (own_plan o F) o ≡ Clear) where
+module _ (o : ByteOrder) (F : List ℕ) (clear : moved_finding (own_plan o F) o ≡ None) where
   pub count_again : section_count o (own_object o F) ≡ section_count o F
   unfolding own_object own_plan
   count_again = count_back (own_plan o F) o (header o F) (own_ident o F) clear

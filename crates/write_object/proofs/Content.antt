@@ -1,4 +1,5 @@
 -- What a section of the written object holds is as long as the plan says, so the object's parts have the lengths that its layout says. Assumes nothing.
+use Rattle.std.specs.Prelude.{None, Some}
 use Prim.Native.Nat.{ℕ, ◌+◌, ◌-◌, ◌*◌, ◌<◌}
 use mathlib.Core.Path.{◌≡◌, refl, sym, ap, ◌∙◌}
 use mathlib.Core.Bool.{Bool, true, false}
@@ -13,7 +14,6 @@ use Rattle.base_lists.specs.Windows.{Within}
 use Rattle.base_lists.proofs.Windows.{within_right, within_first}
 use Rattle.base_buffers.specs.Buffers.{zeros}
 use Rattle.base_fields.specs.declared.ByteOrder.{ByteOrder}
-use Rattle.base_scope.specs.declared.Finding.TheVariants.{Clear, At}
 use Rattle.base_scope.specs.Refusals.{pick_finding}
 use Rattle.elf_records.specs.declared.header.ElfHeader.{ElfHeader}
 use Rattle.elf_records.specs.Header.{elf_bytes}
@@ -26,7 +26,7 @@ use Rattle.write_object.specs.Steps.{moves_words, moved_bytes}
 use Rattle.write_object.proofs.Steps.{moved_bytes_long}
 use Rattle.write_object.specs.Object.{Plan, has_place, layout_of, written_offset, is_moved_debug, written_content, written_front, written_heading, fails_to_move, moved_finding, object_bytes}
 
-not_clear : (b : Bool) → pick_finding b (At 0) Clear ≡ Clear → b ≡ false
+not_clear : (b : Bool) → pick_finding b (Some 0) None ≡ None → b ≡ false
 not_clear true e = cc
 not_clear false e = refl
 
@@ -41,11 +41,11 @@ module _ (p : Plan) (o : ByteOrder) where
   unfolding written_content is_moved_debug moved_bytes moves_words fails_to_move
   content_as_long i f = moved_bytes_long o (p.heading i).sh_type (p.content i) (p.heading i).sh_offset (written_offset p i) f
 
-  pub none_fails : moved_finding p o ≡ Clear → (i : ℕ) → i < p.many → fails_to_move p o i ≡ false
+  pub none_fails : moved_finding p o ≡ None → (i : ℕ) → i < p.many → fails_to_move p o i ≡ false
   unfolding moved_finding
   none_fails clear i h = no_some (fails_to_move p o) 0 p.many i (not_clear (ltb (first (fails_to_move p o) 0 p.many) p.many) clear) (omega arith) h
 
-  module _ (clear : moved_finding p o ≡ Clear) where
+  module _ (clear : moved_finding p o ≡ None) where
     pub content_long : (i : ℕ) → i < p.many → length (written_content p o i) ≡ length (p.content i)
     content_long i h = content_as_long i (none_fails clear i h)
 

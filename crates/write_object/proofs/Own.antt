@@ -1,4 +1,5 @@
 -- An object that is written again from its own sections: what its checks leave true, how far its sections reach, and each step's part of it. Assumes nothing.
+use Rattle.std.specs.Prelude.{None, Some}
 use Prim.Native.Nat.{ℕ, zero, suc, ◌+◌, ◌-◌, ◌*◌, ◌≤◌, ◌<◌}
 use mathlib.Core.Path.{◌≡◌, refl, sym, ap, ◌∙◌}
 use mathlib.Core.Bool.{Bool, true, false}
@@ -16,7 +17,6 @@ use Rattle.base_lists.proofs.Windows.{spliced_nil}
 use Rattle.base_buffers.specs.Buffers.{zeros}
 use Rattle.base_fields.specs.declared.ByteOrder.{ByteOrder}
 use Rattle.base_fields.specs.Layouts.{fields_from}
-use Rattle.base_scope.specs.declared.Finding.TheVariants.{Clear, At}
 use Rattle.base_scope.specs.Elf.{SHT_MIPS_DEBUG}
 use Rattle.base_scope.specs.Refusals.{STATICS}
 use Rattle.base_answers.specs.Answers.{refused, COMPILED, room_for}
@@ -43,7 +43,7 @@ use Rattle.write_object.proofs.Content.{none_fails, length_object}
 use Rattle.write_object.proofs.Words.{end_mono}
 
 -- an object that refusals 2 and 3 pass is ready
-pub own_ready : (o : ByteOrder) (F : List ℕ) → header_fault o F ≡ Clear → section_fault o F ≡ Clear → length F ≤ FILE_LIMIT → OwnReady o F
+pub own_ready : (o : ByteOrder) (F : List ℕ) → header_fault o F ≡ None → section_fault o F ≡ None → length F ≤ FILE_LIMIT → OwnReady o F
 own_ready o F h s short = record {
   headed = headed_of o F h s;
   aligned = λ i below. sound_aligned o F i (sections_sound o F s i below);
@@ -61,11 +61,11 @@ unfolding has_place
 unplaced_type h f e = both (rw e) f
 
 module _ (p : Plan) (o : ByteOrder) where
-  finding_yes : ltb (first (fails_to_move p o) 0 p.many) p.many ≡ true → At 0 ≡ moved_finding p o
+  finding_yes : ltb (first (fails_to_move p o) 0 p.many) p.many ≡ true → Some 0 ≡ moved_finding p o
   unfolding moved_finding
   finding_yes t = rw t
 
-  finding_no : ltb (first (fails_to_move p o) 0 p.many) p.many ≡ false → Clear ≡ moved_finding p o
+  finding_no : ltb (first (fails_to_move p o) 0 p.many) p.many ≡ false → None ≡ moved_finding p o
   unfolding moved_finding
   finding_no f = rw f
 
@@ -127,7 +127,7 @@ module _ (o : ByteOrder) (F : List ℕ) where
     unfolding own_plan
     whole = sym all
 
-    pub finding_here : i < n → fails_to_move P o i ≡ true → At 0 ≡ moved_finding P o
+    pub finding_here : i < n → fails_to_move P o i ≡ true → Some 0 ≡ moved_finding P o
     finding_here h t =
         let e : ltb (first (fails_to_move P o) 0 n) n ≡ true = lt-ltb (first (fails_to_move P o) 0 n) n (omega (arith, h, before, first_here (fails_to_move P o) i n h t)) in
         finding_yes P o (ap (λ (m : ℕ). ltb (first (fails_to_move P o) 0 m) m) whole ∙ e)
@@ -135,7 +135,7 @@ module _ (o : ByteOrder) (F : List ℕ) where
     pub finding_next : i < n → fails_to_move P o i ≡ false → first (fails_to_move P o) 0 n ≡ first (fails_to_move P o) (i + 1) n
     finding_next h f = before ∙ first_next (fails_to_move P o) i n h f
 
-    pub finding_none : n ≤ i → Clear ≡ moved_finding P o
+    pub finding_none : n ≤ i → None ≡ moved_finding P o
     finding_none h =
         let e : ltb (first (fails_to_move P o) 0 n) n ≡ false = le-ltb (first (fails_to_move P o) 0 n) n (omega (arith, h, before, first_end (fails_to_move P o) i n h)) in
         finding_no P o (ap (λ (m : ℕ). ltb (first (fails_to_move P o) 0 m) m) whole ∙ e)
@@ -259,7 +259,7 @@ module _ (o : ByteOrder) (F : List ℕ) where
   unfolding written_front
   front_ident = own_ident
 
-  module _ (clear : moved_finding P o ≡ Clear) where
+  module _ (clear : moved_finding P o ≡ None) where
     pub own_fine : (i : ℕ) → i < section_count o F → fails_to_move P o i ≡ false
     unfolding own_plan
     own_fine i h = none_fails P o clear i h
@@ -302,15 +302,15 @@ module _ (o : ByteOrder) (F : List ℕ) where
   -- ---- the answer
 
   module _ (room : ℕ) where
-    pub rewrite_clear : moved_finding P o ≡ Clear → room_for (own_object o F) room ≡ rewrite_answer o F room
+    pub rewrite_clear : moved_finding P o ≡ None → room_for (own_object o F) room ≡ rewrite_answer o F room
     unfolding rewrite_answer finding_verdict if_passed
     rewrite_clear e = rw e
 
-    pub rewrite_refused : (place : ℕ) → moved_finding P o ≡ At place → refused STATICS COMPILED place ≡ rewrite_answer o F room
+    pub rewrite_refused : (place : ℕ) → moved_finding P o ≡ Some place → refused STATICS COMPILED place ≡ rewrite_answer o F room
     unfolding rewrite_answer finding_verdict if_passed
     rewrite_refused place e = rw e
 
-  module _ (clear : moved_finding P o ≡ Clear) (end at many : ℕ) (ends : end ≡ own_end o F (section_count o F)) (starts : at ≡ aligned_to end 4) (all : many ≡ section_count o F) where
+  module _ (clear : moved_finding P o ≡ None) (end at many : ℕ) (ends : end ≡ own_end o F (section_count o F)) (starts : at ≡ aligned_to end 4) (all : many ≡ section_count o F) where
     pub at_is : at ≡ headings_at (layout_of P)
     at_is = starts ∙ headings_is end ends
 

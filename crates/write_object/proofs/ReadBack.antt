@@ -1,5 +1,6 @@
 -- The written object, read by the gABI's readers, is what the plan says: its file header, its section headers, the bytes and the names of its sections, and the tables that they
 -- hold. Assumes nothing.
+use Rattle.std.specs.Prelude.{None}
 use Prim.Native.Nat.{ℕ, ◌+◌, ◌*◌, ◌≤◌, ◌<◌}
 use mathlib.Core.Path.{◌≡◌, sym, ap, ◌∙◌}
 use mathlib.Core.Logic.{◌≢◌}
@@ -14,7 +15,6 @@ use Rattle.base_lists.specs.Windows.{Within}
 use Rattle.base_lists.proofs.Ranges.{by-test, both, or_parts}
 use Rattle.base_lists.proofs.Windows.{within_within, within_fits, within_read}
 use Rattle.base_fields.specs.declared.ByteOrder.{ByteOrder}
-use Rattle.base_scope.specs.declared.Finding.TheVariants.{Clear}
 use Rattle.base_scope.specs.Limits.{SECTION_LIMIT}
 use Rattle.base_scope.specs.Elf.{SHT_NULL, SHT_NOBITS}
 use Rattle.elf_records.specs.declared.header.ElfHeader.{ElfHeader}
@@ -46,7 +46,7 @@ unplaced_offset : (p : Plan) (i : ℕ) → has_place (p.heading i) ≡ false →
 unfolding written_offset
 unplaced_offset p i f = rw f
 
-module _ (p : Plan) (o : ByteOrder) (h : ElfHeader) (ident : length h.e_ident ≡ 16) (clear : moved_finding p o ≡ Clear) where
+module _ (p : Plan) (o : ByteOrder) (h : ElfHeader) (ident : length h.e_ident ≡ 16) (clear : moved_finding p o ≡ None) where
   abbrev O : List ℕ
   O = object_bytes p o h
 

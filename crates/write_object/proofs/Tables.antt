@@ -1,4 +1,5 @@
 -- The tables of the written object: where a section of the plan holds the entries of a symbol table or of a relocation table, these are read back, each as it was. Assumes nothing.
+use Rattle.std.specs.Prelude.{None}
 use Prim.Native.Nat.{ℕ, ◌+◌, ◌*◌, ◌/◌, ◌<◌}
 use mathlib.Core.Path.{◌≡◌, refl, sym, ap, ◌∙◌}
 use mathlib.Core.Bool.{Bool, true, false}
@@ -12,7 +13,6 @@ use Rattle.base_lists.proofs.Ranges.{first_ext, gather_all_length}
 use Rattle.base_lists.proofs.Windows.{within_gather}
 use Rattle.base_fields.specs.declared.ByteOrder.{ByteOrder}
 use Rattle.base_fields.specs.Layouts.{width_of}
-use Rattle.base_scope.specs.declared.Finding.TheVariants.{Clear}
 use Rattle.base_scope.specs.Elf.{SHT_SYMTAB, SHT_RELA}
 use Rattle.elf_records.specs.declared.header.ElfHeader.{ElfHeader}
 use Rattle.elf_records.specs.declared.symbol.SymbolEntry.{SymbolEntry}
@@ -40,7 +40,7 @@ over : (b : Bool) (n : ℕ) → width_of (relocation_layout b) * n / width_of (r
 over true n = rw rela_width (omega arith)
 over false n = rw rel_width (omega arith)
 
-module _ (p : Plan) (o : ByteOrder) (h : ElfHeader) (ident : length h.e_ident ≡ 16) (clear : moved_finding p o ≡ Clear) where
+module _ (p : Plan) (o : ByteOrder) (h : ElfHeader) (ident : length h.e_ident ≡ 16) (clear : moved_finding p o ≡ None) where
   abbrev O : List ℕ
   O = object_bytes p o h
 

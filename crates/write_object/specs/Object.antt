@@ -1,12 +1,10 @@
 -- An object that is to be written (document 01; 000, the writer): the file header of another object and any list of sections, by their headers and contents. Where sections
 -- stand is the crate write_image's (specs/Layout.antt). A plan's headers have C's own sh_offset, which a section without a place keeps and a debug section moves from; new
 -- sections have 0.
-use Rattle.std.specs.Prelude.{ℕ, Bool, cond, not, ◌&&◌, ◌||◌, List, length, eqb, ltb}
+use Rattle.std.specs.Prelude.{ℕ, Bool, cond, not, ◌&&◌, ◌||◌, List, length, eqb, ltb, None, Some, Option}
 use Rattle.base_lists.specs.Ranges.{first, pick_list}
 use Rattle.base_fields.specs.declared.ByteOrder.{ByteOrder}
 use Rattle.base_scope.specs.Elf.{SHT_NULL, SHT_NOBITS, SHT_MIPS_DEBUG}
-use Rattle.base_scope.specs.declared.Finding.{Finding}
-use Rattle.base_scope.specs.declared.Finding.TheVariants.{Clear, At}
 use Rattle.base_scope.specs.Refusals.{pick_finding}
 use Rattle.elf_records.specs.declared.header.ElfHeader.{ElfHeader}
 use Rattle.elf_records.specs.declared.section.SectionHeader.{SectionHeader}
@@ -69,8 +67,8 @@ module _ (p : Plan) where
   unfoldable pub fails_to_move : ByteOrder → ℕ → Bool
   fails_to_move o i = shift_fails o (p.content i) (p.heading i).sh_type (p.heading i).sh_offset (written_offset i)
 
-  unfoldable pub moved_finding : ByteOrder → Finding
-  moved_finding o = pick_finding (ltb (first (fails_to_move o) 0 p.many) p.many) (At 0) Clear
+  unfoldable pub moved_finding : ByteOrder → Option ℕ
+  moved_finding o = pick_finding (ltb (first (fails_to_move o) 0 p.many) p.many) (Some 0) None
 
   -- the file header: only e_shoff and e_shnum change
   unfoldable pub written_front : ElfHeader → ElfHeader

@@ -6,7 +6,6 @@
 ghost use Rattle.std.specs.Prelude.{◌≡◌, false, ◌+◌, ◌-◌, ◌*◌, ◌≤◌, ◌<◌, length, take, drop};
 ghost use Rattle.base_lists.specs.Windows.{spliced};
 ghost use Rattle.base_buffers.specs.Buffers.{zeros};
-ghost use Rattle.base_scope.specs.declared.Finding.TheVariants.{Clear};
 ghost use Rattle.base_answers.specs.Answers.{room_for};
 ghost use Rattle.base_answers.specs.Answered.{Answered};
 ghost use Rattle.elf_records.specs.Header.{elf_bytes};
@@ -18,9 +17,8 @@ ghost use Rattle.write_object.specs.Object.{has_place, layout_of, written_headin
 ghost use Rattle.write_object.specs.Steps.{front_with, heading_with, size_with, moved_bytes, padded_section, placed_piece, pieces_of, headings_of};
 ghost use Rattle.write_object.specs.Own.{own_plan, own_object, own_end, rewrite_answer, OwnReady, OwnSection, OwnStep, Rewritten};
 
-use base_answers::Outcome;
+use base_answers::{Outcome, Refusal};
 use base_fields::ByteOrder;
-use base_scope::Finding;
 use elf_records::{ElfHeader, SectionHeader};
 
 // Whether a section has a place in the object.
@@ -174,10 +172,8 @@ fn own_end(order: ByteOrder, file: &[u8]) -> usize
 {
     let n = elf_readers::section_count(order, file);
     let mut end: usize = 52;
-    let mut i: usize = 0;
-    while i < n {
+    for i in 0..n {
         end = end_after(order, file, i, end);
-        i += 1;
     }
     end
 }
@@ -197,21 +193,19 @@ fn fails_at(order: ByteOrder, file: &[u8], i: usize, end: usize) -> bool
 }
 
 // Refusal 17 of the sections' moves.
-fn moved_finding(order: ByteOrder, file: &[u8]) -> Finding
+fn moved_finding(order: ByteOrder, file: &[u8]) -> Option<usize>
     requires { OwnReady order file.now }
     ensures { result ≡ moved_finding (own_plan order file.now) order }
 {
     let n = elf_readers::section_count(order, file);
     let mut end: usize = 52;
-    let mut i: usize = 0;
-    while i < n {
+    for i in 0..n {
         if fails_at(order, file, i, end) {
-            return Finding::At(0);
+            return Some(0);
         }
         end = end_after(order, file, i, end);
-        i += 1;
     }
-    Finding::Clear
+    None
 }
 
 // Writes section i behind the end of those before it, where it has a place.
@@ -231,16 +225,14 @@ fn write_own_section(out: &mut [u8], order: ByteOrder, file: &[u8], i: usize, en
 
 // Writes the sections that have a place, one behind the other.
 fn write_own_sections(out: &mut [u8], order: ByteOrder, file: &[u8])
-    requires { OwnReady order file.now × (moved_finding (own_plan order file.now) order ≡ Clear)
+    requires { OwnReady order file.now × (moved_finding (own_plan order file.now) order ≡ None)
         × (own_end order file.now (section_count order file.now) ≤ length out.old) }
     ensures { out.new ≡ spliced out.old HEADER_END (pieces_of (own_plan order file.now) order (section_count order file.now)) }
 {
     let n = elf_readers::section_count(order, file);
     let mut end: usize = 52;
-    let mut i: usize = 0;
-    while i < n {
+    for i in 0..n {
         end = write_own_section(out, order, file, i, end);
-        i += 1;
     }
 }
 
@@ -275,16 +267,14 @@ fn write_own_headings(out: &mut [u8], at: usize, order: ByteOrder, file: &[u8])
 {
     let n = elf_readers::section_count(order, file);
     let mut end: usize = 52;
-    let mut i: usize = 0;
-    while i < n {
+    for i in 0..n {
         end = write_own_heading(out, at + 40 * i, order, file, i, end);
-        i += 1;
     }
 }
 
 // Writes the object: the file header, the sections, zeros, and the section headers.
 fn write_own(out: &mut [u8], order: ByteOrder, file: &[u8], end: usize, at: usize, many: usize)
-    requires { OwnReady order file.now × (moved_finding (own_plan order file.now) order ≡ Clear) × (end ≡ own_end order file.now (section_count order file.now))
+    requires { OwnReady order file.now × (moved_finding (own_plan order file.now) order ≡ None) × (end ≡ own_end order file.now (section_count order file.now))
         × (at ≡ headings_at (layout_of (own_plan order file.now))) × (many ≡ section_count order file.now) × (many < 65536)
         × (image_length (layout_of (own_plan order file.now)) ≤ length out.old) }
     ensures { out.new ≡ spliced out.old 0 (own_object order file.now) }
@@ -297,7 +287,7 @@ fn write_own(out: &mut [u8], order: ByteOrder, file: &[u8], end: usize, at: usiz
 
 // Writes the object where there is room for it.
 fn place_object(out: &mut [u8], order: ByteOrder, file: &[u8]) -> Outcome
-    requires { OwnReady order file.now × (moved_finding (own_plan order file.now) order ≡ Clear) }
+    requires { OwnReady order file.now × (moved_finding (own_plan order file.now) order ≡ None) }
     ensures { Answered (room_for (own_object order file.now) (length out.old)) result out.old out.new }
 {
     let many = elf_readers::section_count(order, file);
@@ -308,7 +298,11 @@ fn place_object(out: &mut [u8], order: ByteOrder, file: &[u8]) -> Outcome
         write_own(out, order, file, end, at, many);
         return base_answers::result(long as u64);
     }
-    base_answers::refusal(base_scope::OUTPUT_ROOM, base_answers::NONE, long as u64)
+    base_answers::refused(Refusal {
+        number: base_scope::OUTPUT_ROOM,
+        object: base_answers::NONE,
+        place: long as u64,
+    })
 }
 
 // The answer, and the object at the front of the output.
@@ -317,12 +311,12 @@ fn rewrite_answer(out: &mut [u8], order: ByteOrder, file: &[u8]) -> Outcome
     ensures { Answered (rewrite_answer order file.now (length out.old)) result out.old out.new }
 {
     match moved_finding(order, file) {
-        Finding::Clear => place_object(out, order, file),
-        Finding::At(place) => base_answers::refusal(
-            base_scope::STATICS,
-            base_answers::COMPILED,
-            place as u64,
-        ),
+        None => place_object(out, order, file),
+        Some(place) => base_answers::refused(Refusal {
+            number: base_scope::STATICS,
+            object: base_answers::COMPILED,
+            place: place as u64,
+        }),
     }
 }
 

@@ -1,5 +1,6 @@
 -- The entries of the merged object's tables: their bytes one behind the other are what the table holds, and all have an addend or none has, as the type of the table says.
 -- Assumes nothing.
+use Rattle.std.specs.Prelude.{None}
 use Prim.Native.Nat.{ℕ, zero, suc, ◌+◌, ◌-◌, ◌/◌, ◌<◌, min}
 use mathlib.Core.Path.{◌≡◌, refl, sym, ap, ◌∙◌}
 use mathlib.Core.Logic.{◌⊎◌, inl, inr}
@@ -15,7 +16,6 @@ use Rattle.base_lists.proofs.Ranges.{by-test, by-lt, and_parts, gather_same, lea
 use Rattle.base_lists.proofs.Records.{flat_append, flat_none, flat_one, flat_cons}
 use Rattle.base_fields.specs.declared.ByteOrder.{ByteOrder}
 use Rattle.base_scope.specs.Elf.{SHT_RELA}
-use Rattle.base_scope.specs.declared.Finding.TheVariants.{Clear}
 use Rattle.base_scope.proofs.Refusals.{found_clear}
 use Rattle.elf_records.specs.declared.relocation.RelocationEntry.{RelocationEntry}
 use Rattle.elf_records.specs.declared.section.SectionHeader.{SectionHeader}
@@ -167,7 +167,7 @@ module _ (b : Bool) where
   alike_empty o F w t e = rw (e, zero_over (entry_size o F t) (size_cases o F t)) alike_none
 
 -- where refusal 10 does not hold, no table is misjoined
-pub none_misjoined : (o : ByteOrder) (C A : List ℕ) (flag : ℕ) → clash_finding o C A flag ≡ Clear → (t : ℕ) → t < section_count o A → is_misjoined o C A (kept o C flag) t ≡ false
+pub none_misjoined : (o : ByteOrder) (C A : List ℕ) (flag : ℕ) → clash_finding o C A flag ≡ None → (t : ℕ) → t < section_count o A → is_misjoined o C A (kept o C flag) t ≡ false
 unfolding clash_finding clash_at is_misjoined
 none_misjoined o C A flag clear t h = by-test (is_misjoined o C A (kept o C flag) t)
     (λ y.
@@ -184,7 +184,7 @@ module _ (o : ByteOrder) (C A : List ℕ) (P : List Place) (B path : List ℕ) (
   abbrev p : Plan
   p = merged_plan o C A P B path flag mode
 
-  module _ (unclashed : clash_finding o C A flag ≡ Clear) (j : ℕ) (h : j < carried_count o A) (some : 0 < (section o A (carried_table o A j)).sh_size) where
+  module _ (unclashed : clash_finding o C A flag ≡ None) (j : ℕ) (h : j < carried_count o A) (some : 0 < (section o A (carried_table o A j)).sh_size) where
     abbrev home : ℕ
     home = home_of o C A (kept o C flag) j
 
@@ -205,7 +205,7 @@ module _ (o : ByteOrder) (C A : List ℕ) (P : List Place) (B path : List ℕ) (
         ∙ (new_kind o C A (kept o C flag) j h f).0)
 
   -- so the entries of a table are as its type says
-  module _ (unclashed : clash_finding o C A flag ≡ Clear) (i : ℕ) where
+  module _ (unclashed : clash_finding o C A flag ≡ None) (i : ℕ) where
     abbrev rela : Bool
     rela = eqb (p.heading i).sh_type SHT_RELA
 

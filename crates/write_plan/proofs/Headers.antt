@@ -1,4 +1,5 @@
 -- The merged object, read by the gABI's readers: how many sections it has, their headers, and their names. Assumes nothing.
+use Rattle.std.specs.Prelude.{None}
 use Prim.Native.Nat.{ℕ, ◌+◌, ◌-◌, ◌≤◌, ◌<◌}
 use mathlib.Core.Path.{◌≡◌, refl, sym, ap, ◌∙◌}
 use mathlib.Core.Logic.{◌≢◌}
@@ -16,7 +17,6 @@ use Rattle.base_fields.specs.declared.ByteOrder.{ByteOrder}
 use Rattle.base_scope.specs.Text.{text}
 use Rattle.base_scope.specs.Elf.{SHT_NULL, SHT_STRTAB, SHT_NOBITS, SHT_MIPS_DEBUG}
 use Rattle.base_scope.specs.Codes.{LINES, section_codes, code_name, target_code}
-use Rattle.base_scope.specs.declared.Finding.TheVariants.{Clear}
 use Rattle.elf_records.specs.declared.section.SectionHeader.{SectionHeader}
 use Rattle.elf_readers.specs.Readers.{header, section_count, section, contents, is_strtab, section_strings, section_name}
 use Rattle.elf_relocations.specs.Relocations.{is_rela}
@@ -122,7 +122,7 @@ module _ (o : ByteOrder) (C A : List ℕ) (P : List Place) (B path : List ℕ) (
   pub content_still : (i : ℕ) → (p.heading i).sh_type ≢ SHT_MIPS_DEBUG → written_content p o i ≡ planned_bytes o C A P B path flag mode i
   content_still i n = content_kept p o i (still_typed i n) ∙ content_is i
 
-  module _ (clear : moved_finding p o ≡ Clear) where
+  module _ (clear : moved_finding p o ≡ None) where
     -- ---- headers
 
     pub merged_count_lem : section_count o O ≡ stay + new

@@ -1,4 +1,5 @@
 -- The names of the result's symbols, read by the gABI's readers: each entry's is the one that its candidate is written with. Assumes nothing.
+use Rattle.std.specs.Prelude.{None}
 use Prim.Native.Nat.{ℕ, zero, suc, ◌+◌, ◌-◌, ◌≤◌, ◌<◌}
 use mathlib.Core.Path.{◌≡◌, refl, sym, ap, ◌∙◌}
 use mathlib.Core.Bool.{true, false}
@@ -10,7 +11,6 @@ use borrow.Author.Tests.{lt-ltb, le-ltb}
 use Rattle.base_lists.specs.Strings.{name_at, has_end}
 use Rattle.base_lists.proofs.Ranges.{by-lt}
 use Rattle.base_fields.specs.declared.ByteOrder.{ByteOrder}
-use Rattle.base_scope.specs.declared.Finding.TheVariants.{Clear}
 use Rattle.elf_records.specs.declared.symbol.SymbolEntry.{SymbolEntry}
 use Rattle.elf_readers.specs.Readers.{header, is_strtab}
 use Rattle.elf_symbols.specs.Symbols.{symbol_count, symbol, symbol_strings, symbol_name}
@@ -181,7 +181,7 @@ module _ (o : ByteOrder) (C A : List ℕ) (P : List Place) (B path : List ℕ) (
   unfolding merge_candidates candidates first_static first_a
   candidate_at k l h = merged_taken symbols k l h
 
-  pub name_merged : moved_finding (merged_plan o C A P B path flag mode) o ≡ Clear → Sound o C → is_strtab o C (header o C).e_shstrndx ≡ true → Sound o A → Full path
+  pub name_merged : moved_finding (merged_plan o C A P B path flag mode) o ≡ None → Sound o C → is_strtab o C (header o C).e_shstrndx ≡ true → Sound o A → Full path
       → (k : ℕ) → 1 ≤ k → k < merged_count symbols
       → symbol_name o (merged_object o C A P B path flag mode) k ≡ name_written o C A mode path listed_statics (merged_at symbols k)
   name_merged clear sound names soundA full k l h =
@@ -210,7 +210,7 @@ module _ (o : ByteOrder) (C A : List ℕ) (P : List Place) (B path : List ℕ) (
     pub null_end : has_end (result_strings o C A mode path listed_statics) (result_entry o C A P B mode listed_statics 0).st_name ≡ true
     null_end = ap (has_end (result_strings o C A mode path listed_statics)) null_at ∙ end_of_c o C A mode path listed_statics 0 null_ended
 
-    pub null_unnamed : moved_finding (merged_plan o C A P B path flag mode) o ≡ Clear → is_strtab o C (header o C).e_shstrndx ≡ true → 0 < merged_count symbols
+    pub null_unnamed : moved_finding (merged_plan o C A P B path flag mode) o ≡ None → is_strtab o C (header o C).e_shstrndx ≡ true → 0 < merged_count symbols
         → symbol_name o (merged_object o C A P B path flag mode) 0 ≡ []
     unfolding symbol_name
     null_unnamed clear names h =

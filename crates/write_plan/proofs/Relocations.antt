@@ -1,5 +1,6 @@
 -- The relocation tables of the merged object, read by the gABI's readers: which sections are tables, and that a table's entries are C's kept ones, then those of the carried
 -- tables that join it; and each carried table with entries joins a table of its type for the section that its bytes go into. Assumes nothing.
+use Rattle.std.specs.Prelude.{None}
 use Prim.Native.Nat.{ℕ, zero, suc, ◌+◌, ◌-◌, ◌≤◌, ◌<◌}
 use mathlib.Core.Path.{◌≡◌, refl, sym, ap, ◌∙◌}
 use mathlib.Core.Logic.{◌≢◌, ◌⊎◌, inl, inr}
@@ -15,7 +16,6 @@ use Rattle.base_fields.specs.declared.ByteOrder.{ByteOrder}
 use Rattle.base_fields.specs.Layouts.{width_of}
 use Rattle.base_scope.specs.Elf.{SHT_SYMTAB, SHT_RELA, SHT_REL}
 use Rattle.base_scope.specs.Codes.{target_code}
-use Rattle.base_scope.specs.declared.Finding.TheVariants.{Clear}
 use Rattle.elf_records.specs.declared.section.SectionHeader.{SectionHeader}
 use Rattle.elf_records.specs.declared.relocation.RelocationEntry.{RelocationEntry}
 use Rattle.elf_records.specs.Relocation.{relocation_layout, relocation_bytes}
@@ -102,7 +102,7 @@ module _ (o : ByteOrder) (C A : List ℕ) (P : List Place) (B path : List ℕ) (
       (λ l. rw (type_kept o C A P B path flag mode i l) (table_typed o C i (sym (planned_kept o C A P B path flag mode i l) ∙ t)))
       (λ l. new_typed i l h)
 
-  module _ (clear : moved_finding p o ≡ Clear) where
+  module _ (clear : moved_finding p o ≡ None) where
     type_merged : (i : ℕ) → i < many → (section o O i).sh_type ≡ (p.heading i).sh_type
     unfolding merged_object
     type_merged i h = type_back p o (header o C) (own_ident o C) clear i (rw (many_is o C A P B path flag mode) h)
@@ -120,7 +120,7 @@ module _ (o : ByteOrder) (C A : List ℕ) (P : List Place) (B path : List ℕ) (
 
     -- ---- their entries
 
-    module _ (unclashed : clash_finding o C A flag ≡ Clear) (i : ℕ) (h : i < many) (t : planned i ≡ true) where
+    module _ (unclashed : clash_finding o C A flag ≡ None) (i : ℕ) (h : i < many) (t : planned i ≡ true) where
       abbrev entries : List RelocationEntry
       entries = table_entries o C A P B path flag mode i
 
@@ -159,7 +159,7 @@ module _ (o : ByteOrder) (C A : List ℕ) (P : List Place) (B path : List ℕ) (
   -- ---- the tables that join
 
   -- a carried table with entries joins a table of the result, of its type, for C's section that its bytes go into
-  module _ (unclashed : clash_finding o C A flag ≡ Clear) (j : ℕ) (h : j < carried_count o A) (some : 0 < (section o A (carried_table o A j)).sh_size) where
+  module _ (unclashed : clash_finding o C A flag ≡ None) (j : ℕ) (h : j < carried_count o A) (some : 0 < (section o A (carried_table o A j)).sh_size) where
     abbrev table : ℕ
     table = carried_table o A j
 
@@ -202,7 +202,7 @@ module _ (o : ByteOrder) (C A : List ℕ) (P : List Place) (B path : List ℕ) (
 
   -- ---- their headers
 
-  module _ (clear : moved_finding p o ≡ Clear) (sound : Sound o C) (i : ℕ) (h : i < many) (t : planned i ≡ true) where
+  module _ (clear : moved_finding p o ≡ None) (sound : Sound o C) (i : ℕ) (h : i < many) (t : planned i ≡ true) where
     -- entries have the size of the table's type
     planned_entsize : (p.heading i).sh_entsize ≡ width_of (relocation_layout (eqb (p.heading i).sh_type SHT_RELA))
     unfolding kept_heading new_heading entry_size is_rela relocation_table_sound

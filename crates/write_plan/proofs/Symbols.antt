@@ -1,5 +1,6 @@
 -- The symbol table of the merged object, read by the gABI's readers: it is C's section of that type, its entries are those of the result, its sh_info is the number of local
 -- ones, and its string table is C's, with the result's strings. Assumes nothing.
+use Rattle.std.specs.Prelude.{None}
 use Prim.Native.Nat.{ℕ, ◌<◌}
 use mathlib.Core.Path.{◌≡◌, refl, ap, ◌∙◌}
 use mathlib.Core.Bool.{Bool, true, false}
@@ -14,7 +15,6 @@ use Rattle.base_lists.proofs.Ranges.{first_is, first_unique}
 use Rattle.base_lists.proofs.Strings.{name_append}
 use Rattle.base_fields.specs.declared.ByteOrder.{ByteOrder}
 use Rattle.base_scope.specs.Elf.{SHT_SYMTAB, SHT_STRTAB}
-use Rattle.base_scope.specs.declared.Finding.TheVariants.{Clear}
 use Rattle.elf_records.specs.declared.section.SectionHeader.{SectionHeader}
 use Rattle.elf_records.specs.declared.symbol.SymbolEntry.{SymbolEntry}
 use Rattle.elf_records.specs.Symbol.{symbol_bytes}
@@ -53,7 +53,7 @@ module _ (o : ByteOrder) (C A : List ℕ) (P : List Place) (B path : List ℕ) (
   abbrev many : ℕ
   many = merged_count (merge_candidates o C A P B mode (length (name_head mode path)))
 
-  module _ (clear : moved_finding p o ≡ Clear) (sound : Sound o C) (names : is_strtab o C (header o C).e_shstrndx ≡ true) where
+  module _ (clear : moved_finding p o ≡ None) (sound : Sound o C) (names : is_strtab o C (header o C).e_shstrndx ≡ true) where
     abbrev t : ℕ
     t = symtab o C
 

@@ -37,10 +37,8 @@ fn append_statics(
         × (result ≤ at + 2 ^ 33) }
 {
     let mut next = at;
-    let mut k: usize = 0;
-    while k < n {
+    for k in 0..n {
         next = append_string(out, next, mode, path, compiled, Static::read(statics, k));
-        k += 1;
     }
     next
 }

@@ -56,10 +56,8 @@ pub fn append_joined(
         × (result ≤ at + n * FILE_LIMIT) }
 {
     let mut next = at;
-    let mut j: usize = 0;
-    while j < n {
+    for j in 0..n {
         next = append_row(out, next, file, side, rows, late, numbers, homes, i, n, j);
-        j += 1;
     }
     next
 }

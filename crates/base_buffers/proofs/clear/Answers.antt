@@ -2,25 +2,21 @@
 use Rattle.base_buffers.specs.Buffers.{zeros}
 use Rattle.base_buffers.proofs.Buffers.{zero_next, zero_all}
 use native.Mathlib.Omega.{arith}
-use Prim.Native.Nat.{◌-◌}
 use mathlib.Core.Path.{◌≡◌, refl}
-use lib.ListN.{length, length-set}
+use lib.ListN.{length}
 use Rattle.base_buffers.proofs.clear.Goals as goal
 
 pub loop-i-init : goal.loop-i-init
 unfolding zeros
-loop-i-init c = (omega arith, refl, refl)
-
-pub loop-i-smaller : goal.loop-i-smaller
-loop-i-smaller c = omega arith
+loop-i-init c = refl
 
 pub loop-i-preserved : goal.loop-i-preserved
 loop-i-preserved c =
     let l = c.loop-i in
-    (omega arith, simp length-set l.invariant.1, zero_next c.args.s.now l.s l.i (omega arith) l.invariant.2)
+    zero_next c.args.s.now l.s l.i (omega arith) l.invariant
 
 pub returns : goal.returns
 returns c =
     let l = c.loop-i in
     let e : l.i ≡ length c.args.s.now = omega arith in
-    zero_all c.args.s.now l.s l.i e l.invariant.2
+    zero_all c.args.s.now l.s l.i e l.invariant

@@ -1,8 +1,8 @@
 -- `base_fields::write_halves` meets its contract: after i turns the first i halves are written, one behind the other.
 -- Assumes nothing.
 use native.Mathlib.Omega.{arith}
-use Prim.Native.Nat.{ℕ, ◌+◌, ◌-◌, ◌*◌}
-use mathlib.Core.Path.{◌≡◌, refl, sym, ap, ◌∙◌}
+use Prim.Native.Nat.{ℕ, ◌+◌, ◌*◌}
+use mathlib.Core.Path.{◌≡◌, sym, ap, ◌∙◌}
 use mathlib.Core.List.{List}
 use lib.ListN.{get_or, take}
 use Rattle.base_lists.specs.Windows.{spliced}
@@ -17,7 +17,7 @@ use Rattle.base_fields.proofs.write_halves.Goals as goal
 pub loop-i-init : goal.loop-i-init
 loop-i-init c =
     let a = c.args in
-    (omega arith, refl, sym (ap (spliced a.s.now a.at) (flat_none (encoded a.order 2)) ∙ spliced_nil a.s.now a.at))
+    sym (ap (spliced a.s.now a.at) (flat_none (encoded a.order 2)) ∙ spliced_nil a.s.now a.at)
 
 pub write16-requires : goal.write16-requires
 write16-requires c = (omega arith, c.requires.1 c.loop-i.i (omega arith))
@@ -26,17 +26,13 @@ pub loop-i-preserved : goal.loop-i-preserved
 loop-i-preserved c =
     let a = c.args in
     let l = c.loop-i in
-    let w = c.write16 in (
-      omega arith,
-      w.auto.s ∙ l.invariant.1,
-      w.ensures
-          ∙ ap (λ (x : List ℕ). spliced x (a.at + 2 * l.i) (encoded a.order 2 (get_or a.halves.now l.i 0))) l.invariant.2
-          ∙ spliced_record (encoded a.order 2) 2 (length_encoded a.order 2) a.s.now a.at a.halves.now l.i 0 c.requires.0 (omega arith),
-    )
+    c.write16.ensures
+    ∙ ap (λ (x : List ℕ). spliced x (a.at + 2 * l.i) (encoded a.order 2 (get_or a.halves.now l.i 0))) l.invariant
+    ∙ spliced_record (encoded a.order 2) 2 (length_encoded a.order 2) a.s.now a.at a.halves.now l.i 0 c.requires.0 (omega arith)
 
 pub returns : goal.returns
 returns c =
     let a = c.args in
     let l = c.loop-i in
     let t : take l.i a.halves.now ≡ a.halves.now = take_all l.i a.halves.now (omega arith) in
-    l.invariant.2 ∙ ap (λ (x : List ℕ). spliced a.s.now a.at (flat (encoded a.order 2) x)) t
+    l.invariant ∙ ap (λ (x : List ℕ). spliced a.s.now a.at (flat (encoded a.order 2) x)) t

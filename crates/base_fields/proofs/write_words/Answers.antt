@@ -1,8 +1,8 @@
 -- `base_fields::write_words` meets its contract: after i turns the first i words are written, one behind the other.
 -- Assumes nothing.
 use native.Mathlib.Omega.{arith}
-use Prim.Native.Nat.{ℕ, ◌+◌, ◌-◌, ◌*◌}
-use mathlib.Core.Path.{◌≡◌, refl, sym, ap, ◌∙◌}
+use Prim.Native.Nat.{ℕ, ◌+◌, ◌*◌}
+use mathlib.Core.Path.{◌≡◌, sym, ap, ◌∙◌}
 use mathlib.Core.List.{List}
 use lib.ListN.{get_or, take}
 use Rattle.base_lists.specs.Windows.{spliced}
@@ -17,23 +17,19 @@ use Rattle.base_fields.proofs.write_words.Goals as goal
 pub loop-i-init : goal.loop-i-init
 loop-i-init c =
     let a = c.args in
-    (omega arith, refl, sym (ap (spliced a.s.now a.at) (flat_none (encoded a.order 4)) ∙ spliced_nil a.s.now a.at))
+    sym (ap (spliced a.s.now a.at) (flat_none (encoded a.order 4)) ∙ spliced_nil a.s.now a.at)
 
 pub loop-i-preserved : goal.loop-i-preserved
 loop-i-preserved c =
     let a = c.args in
     let l = c.loop-i in
-    let w = c.write32 in (
-      omega arith,
-      w.auto.s ∙ l.invariant.1,
-      w.ensures
-          ∙ ap (λ (x : List ℕ). spliced x (a.at + 4 * l.i) (encoded a.order 4 (get_or a.words.now l.i 0))) l.invariant.2
-          ∙ spliced_record (encoded a.order 4) 4 (length_encoded a.order 4) a.s.now a.at a.words.now l.i 0 c.requires (omega arith),
-    )
+    c.write32.ensures
+    ∙ ap (λ (x : List ℕ). spliced x (a.at + 4 * l.i) (encoded a.order 4 (get_or a.words.now l.i 0))) l.invariant
+    ∙ spliced_record (encoded a.order 4) 4 (length_encoded a.order 4) a.s.now a.at a.words.now l.i 0 c.requires (omega arith)
 
 pub returns : goal.returns
 returns c =
     let a = c.args in
     let l = c.loop-i in
     let t : take l.i a.words.now ≡ a.words.now = take_all l.i a.words.now (omega arith) in
-    l.invariant.2 ∙ ap (λ (x : List ℕ). spliced a.s.now a.at (flat (encoded a.order 4) x)) t
+    l.invariant ∙ ap (λ (x : List ℕ). spliced a.s.now a.at (flat (encoded a.order 4) x)) t

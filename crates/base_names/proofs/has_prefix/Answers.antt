@@ -3,7 +3,6 @@
 use Rattle.base_lists.proofs.Strings.{prefixed_short}
 use Rattle.base_names.proofs.Prefixes.{prefix_start, prefix_next, prefix_not, prefix_end}
 use native.Mathlib.Omega.{arith}
-use Prim.Native.Nat.{◌-◌}
 use mathlib.Core.Path.{sym, ◌∙◌}
 use Rattle.base_names.proofs.has_prefix.Goals as goal
 

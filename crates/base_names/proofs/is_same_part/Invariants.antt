@@ -1,11 +1,7 @@
 use Rattle.base_lists.specs.Strings.{same}
-use Prim.Native.Nat.{◌-◌, ◌≤◌}
 use mathlib.Core.Path.{◌≡◌}
 use lib.ListN.{take, drop}
 use Rattle.base_names.proofs.is_same_part.Given as goal
 
 abbrev pub invariant-loop-i : goal.invariant-loop-i
-invariant-loop-i l = (l.i ≤ l.n) × (l.alike ≡ same (take l.i (drop l.at l.a)) (take l.i (drop l.at l.b)))
-
-abbrev pub decreases-loop-i : goal.decreases-loop-i
-decreases-loop-i l = l.n - l.i
+invariant-loop-i l = l.alike ≡ same (take l.i (drop l.at l.a)) (take l.i (drop l.at l.b))

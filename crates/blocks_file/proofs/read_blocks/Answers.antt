@@ -5,7 +5,6 @@ use Rattle.blocks_file.specs.Table.{bad_line, Reading}
 use Rattle.blocks_file.proofs.Blocks.{group_inside, faulty_high}
 use Rattle.blocks_file.proofs.Table.{length_groups, filled_none, filled_end, filled_limit, filled_faulty, filled_next}
 use native.Mathlib.Omega.{arith}
-use Prim.Native.Nat.{◌-◌}
 use mathlib.Core.Path.{◌≡◌, ap, ◌∙◌}
 use lib.ListN.{length, get_or}
 use Rattle.blocks_file.proofs.read_blocks.Goals as goal

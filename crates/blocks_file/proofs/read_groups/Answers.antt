@@ -3,7 +3,7 @@
 use Rattle.blocks_file.proofs.Blocks.{group_far}
 use Rattle.blocks_file.proofs.Table.{sound_none, sound_next, sound_fault, sound_all}
 use native.Mathlib.Omega.{arith}
-use Prim.Native.Nat.{◌-◌, ◌≤◌}
+use Prim.Native.Nat.{◌≤◌}
 use lib.ListN.{length}
 use Rattle.blocks_file.proofs.read_groups.Goals as goal
 

@@ -2,7 +2,6 @@
 -- none, and at the end of the file, that is where the loop stands. Assumes nothing.
 use Rattle.blocks_file.proofs.Blocks.{skip_stop, skip_turn, skip_past}
 use native.Mathlib.Omega.{arith}
-use Prim.Native.Nat.{◌-◌}
 use mathlib.Core.Path.{refl, sym, ◌∙◌}
 use Rattle.blocks_file.proofs.skip_lines.Goals as goal
 

@@ -3,7 +3,7 @@ use Rattle.blocks_file.proofs.Blocks.{count_high}
 use Rattle.blocks_places.specs.Lines.{line_count}
 use Rattle.blocks_places.proofs.Walk.{walking_none, walking_end_at, walking_8, walking_9, walking_next, walking_end}
 use native.Mathlib.Omega.{arith}
-use Prim.Native.Nat.{◌-◌, ◌≤◌, ◌<◌}
+use Prim.Native.Nat.{◌≤◌, ◌<◌}
 use Rattle.blocks_places.proofs.place_spans.Goals as goal
 
 pub loop-j-init : goal.loop-j-init
@@ -11,8 +11,8 @@ loop-j-init c =
     let a = c.args in
     walking_none a.order a.compiled.now a.file.now a.places.now
 
-pub overflow_mul-blocks : goal.overflow_mul-blocks
-overflow_mul-blocks c = omega (arith, count_high c.args.file.now)
+pub overflow_mul-j-end : goal.overflow_mul-j-end
+overflow_mul-j-end c = omega (arith, count_high c.args.file.now)
 
 pub step_of-s-requires : goal.step_of-s-requires
 step_of-s-requires c =
@@ -59,9 +59,6 @@ store_place-requires c =
     let m = l.invariant.long in
     let h : l.j < line_count a.file.now = omega arith in
     (omega arith, omega arith)
-
-pub overflow_add-j : goal.overflow_add-j
-overflow_add-j c = omega (arith, count_high c.args.file.now)
 
 pub loop-j-preserved : goal.loop-j-preserved
 loop-j-preserved c =

@@ -1,10 +1,5 @@
-use Rattle.base_scope.specs.Codes.{LINES}
 use Rattle.blocks_places.proofs.Walk.{Walking}
-use Prim.Native.Nat.{◌-◌, ◌*◌}
 use Rattle.blocks_places.proofs.place_spans.Given as goal
 
 abbrev pub invariant-loop-j : goal.invariant-loop-j
 invariant-loop-j l = Walking l.order l.compiled l.file l.initial.places l.j l.ends l.on l.places
-
-abbrev pub decreases-loop-j : goal.decreases-loop-j
-decreases-loop-j l = LINES * l.blocks - l.j

@@ -3,7 +3,7 @@ use Rattle.blocks_file.proofs.Blocks.{count_high}
 use Rattle.blocks_places.specs.Lines.{line_count}
 use Rattle.blocks_places.specs.Table.{places_in}
 use Rattle.blocks_spans.proofs.Table.{gathering_none, gathering_next, gathering_end}
-use Prim.Native.Nat.{◌-◌, ◌<◌, ◌≤◌}
+use Prim.Native.Nat.{◌<◌, ◌≤◌}
 use native.Mathlib.Omega.{arith}
 use Rattle.blocks_spans.proofs.gather_spans.Goals as goal
 
@@ -12,8 +12,8 @@ loop-j-init c =
     let a = c.args in
     gathering_none (places_in a.places.now (line_count a.file.now)) a.file.now a.code a.rows.now
 
-pub overflow_mul-blocks : goal.overflow_mul-blocks
-overflow_mul-blocks c = omega (arith, count_high c.args.file.now)
+pub overflow_mul-j-end : goal.overflow_mul-j-end
+overflow_mul-j-end c = omega (arith, count_high c.args.file.now)
 
 pub store_span-r-requires : goal.store_span-r-requires
 store_span-r-requires c =
@@ -22,9 +22,6 @@ store_span-r-requires c =
     let l = c.loop-j in
     let h : l.j < line_count a.file.now = omega arith in
     (c.requires.0, h, l.invariant.many, omega (arith, l.invariant.long, c.requires.2))
-
-pub overflow_add-j : goal.overflow_add-j
-overflow_add-j c = omega (arith, count_high c.args.file.now)
 
 pub loop-j-preserved : goal.loop-j-preserved
 loop-j-preserved c =

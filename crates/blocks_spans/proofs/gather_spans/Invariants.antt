@@ -1,12 +1,7 @@
-use Rattle.base_scope.specs.Codes.{LINES}
 use Rattle.blocks_places.specs.Lines.{line_count}
 use Rattle.blocks_places.specs.Table.{places_in}
 use Rattle.blocks_spans.proofs.Table.{Gathering}
-use Prim.Native.Nat.{◌-◌, ◌*◌}
 use Rattle.blocks_spans.proofs.gather_spans.Given as goal
 
 abbrev pub invariant-loop-j : goal.invariant-loop-j
 invariant-loop-j l = Gathering (places_in l.places (line_count l.file)) l.file l.code l.initial.rows l.j l.r l.rows
-
-abbrev pub decreases-loop-j : goal.decreases-loop-j
-decreases-loop-j l = LINES * l.blocks - l.j

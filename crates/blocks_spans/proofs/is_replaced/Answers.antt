@@ -7,14 +7,14 @@ use Rattle.blocks_spans.proofs.is_replaced.Goals as goal
 pub returns-then-k-s : goal.returns-then-k-s
 returns-then-k-s c =
     let a = c.args in
-    replaced_gap (spans_in a.rows.now a.n) c.requires.ascends a.k _ (sym c.next_span.ensures ∙ c.in-Next.is) c.if-k-s.true
+    replaced_gap (spans_in a.rows.now a.n) c.requires.ascends a.k _ (sym c.next_span.ensures ∙ c.in-Some.is) c.if-k-s.true
 
-pub returns-in-NoSpan : goal.returns-in-NoSpan
-returns-in-NoSpan c =
+pub returns-in-None : goal.returns-in-None
+returns-in-None c =
     let a = c.args in
-    replaced_clear (spans_in a.rows.now a.n) c.requires.ascends a.k (sym c.next_span.ensures ∙ c.in-NoSpan.is)
+    replaced_clear (spans_in a.rows.now a.n) c.requires.ascends a.k (sym c.next_span.ensures ∙ c.in-None.is)
 
 pub returns-else-k-s : goal.returns-else-k-s
 returns-else-k-s c =
     let a = c.args in
-    replaced_word_lem (spans_in a.rows.now a.n) c.requires.ascends a.k _ (sym c.next_span.ensures ∙ c.in-Next.is) c.if-k-s.false
+    replaced_word_lem (spans_in a.rows.now a.n) c.requires.ascends a.k _ (sym c.next_span.ensures ∙ c.in-Some.is) c.if-k-s.false

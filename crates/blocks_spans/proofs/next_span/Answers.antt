@@ -1,5 +1,5 @@
 -- `blocks_spans::next_span` meets its contract: the row that is found is that of the first span that ends behind k. Assumes nothing.
-use Rattle.blocks_spans.specs.declared.NextSpan.TheVariants.{Next}
+use Rattle.std.specs.Prelude.{Some}
 use Rattle.blocks_spans.proofs.Table.{row_next, row_none}
 use mathlib.Core.Path.{ap, ◌∙◌}
 use native.Mathlib.Omega.{arith}
@@ -13,7 +13,7 @@ span_at-requires c =
 pub returns-then-r-n : goal.returns-then-r-n
 returns-then-r-n c =
     let a = c.args in
-    ap Next c.span_at.ensures.0 ∙ row_next a.rows.now a.n a.k _ c.first_behind-r.ensures c.if-r-n.true
+    ap Some c.span_at.ensures.0 ∙ row_next a.rows.now a.n a.k _ c.first_behind-r.ensures c.if-r-n.true
 
 pub returns : goal.returns
 returns c =

@@ -3,7 +3,7 @@ use Rattle.blocks_file.proofs.Blocks.{count_high}
 use Rattle.blocks_places.specs.Lines.{line_count}
 use Rattle.blocks_places.specs.Table.{places_in}
 use Rattle.blocks_spans.proofs.Table.{ending_none, ending_at, ending_next, ending_end}
-use Prim.Native.Nat.{◌-◌, ◌≤◌, ◌<◌}
+use Prim.Native.Nat.{◌≤◌, ◌<◌}
 use native.Mathlib.Omega.{arith}
 use Rattle.blocks_spans.proofs.span_ends.Goals as goal
 
@@ -13,8 +13,8 @@ loop-j-init c =
     let P = places_in a.places.now (line_count a.file.now) in
     ending_none P a.file.now
 
-pub overflow_mul-blocks : goal.overflow_mul-blocks
-overflow_mul-blocks c = omega (arith, count_high c.args.file.now)
+pub overflow_mul-j-end : goal.overflow_mul-j-end
+overflow_mul-j-end c = omega (arith, count_high c.args.file.now)
 
 pub bounds-ends-code : goal.bounds-ends-code
 bounds-ends-code c = omega (arith, c.loop-j.invariant.long, c.line_code-code.ensures)
@@ -29,9 +29,6 @@ end_behind-requires c =
 
 pub bounds-ends-code-in-loop-j : goal.bounds-ends-code-in-loop-j
 bounds-ends-code-in-loop-j c = omega (arith, c.loop-j.invariant.long, c.line_code-code.ensures)
-
-pub overflow_add-j : goal.overflow_add-j
-overflow_add-j c = omega (arith, count_high c.args.file.now)
 
 pub loop-j-preserved : goal.loop-j-preserved
 loop-j-preserved c =

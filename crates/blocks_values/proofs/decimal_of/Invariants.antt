@@ -1,11 +1,8 @@
 use Rattle.base_text.specs.Decimals.{decimal, decimal_from}
-use Prim.Native.Nat.{◌^◌, ◌-◌, ◌≤◌, ◌<◌}
+use Prim.Native.Nat.{◌^◌, ◌≤◌, ◌<◌}
 use mathlib.Core.Path.{◌≡◌}
 use lib.ListN.{length, drop}
 use Rattle.blocks_values.proofs.decimal_of.Given as goal
 
-abbrev pub invariant-loop-i : goal.invariant-loop-i
-invariant-loop-i l = (l.i ≤ length l.v) × (l.n < 10 ^ l.i) × (decimal l.v ≡ decimal_from l.n (drop l.i l.v))
-
-abbrev pub decreases-loop-i : goal.decreases-loop-i
-decreases-loop-i l = length l.v - l.i
+abbrev pub invariant-loop-x : goal.invariant-loop-x
+invariant-loop-x l = (l.x-index ≤ length l.v) × (l.n < 10 ^ l.x-index) × (decimal l.v ≡ decimal_from l.n (drop l.x-index l.v))

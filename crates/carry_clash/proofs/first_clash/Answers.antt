@@ -6,7 +6,7 @@ use Rattle.symbols_taken.proofs.of_elf_check.Views.{view_count}
 use Rattle.carry_clash.specs.Clash.{joined_section, is_misjoined}
 use Rattle.carry_clash.proofs.Joined.{least_step}
 use native.Mathlib.Omega.{arith}
-use Prim.Native.Nat.{ℕ, ◌-◌}
+use Prim.Native.Nat.{ℕ}
 use mathlib.Core.Path.{◌≡◌, sym, ap, ◌∙◌}
 use Rattle.carry_clash.proofs.first_clash.Goals as goal
 

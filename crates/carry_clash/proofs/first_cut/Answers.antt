@@ -4,7 +4,7 @@ use Rattle.elf_readers.specs.Readers.{section_count}
 use Rattle.symbols_taken.proofs.of_elf_check.Views.{view_count}
 use Rattle.carry_clash.specs.Clash.{is_cut}
 use native.Mathlib.Omega.{arith}
-use Prim.Native.Nat.{◌-◌, ◌<◌}
+use Prim.Native.Nat.{◌<◌}
 use mathlib.Core.Path.{◌≡◌, refl, sym, ◌∙◌}
 use Rattle.carry_clash.proofs.first_cut.Goals as goal
 

@@ -4,7 +4,6 @@ use Rattle.symbols_taken.proofs.of_elf_check.Views.{view_table}
 use Rattle.symbols_taken.proofs.Symbols.{view_symbols}
 use Rattle.carry_clash.proofs.Cut.{symbol_there, symbol_next, symbol_none}
 use native.Mathlib.Omega.{arith}
-use Prim.Native.Nat.{◌-◌}
 use mathlib.Core.Path.{refl}
 use Rattle.carry_clash.proofs.holds_symbol.Goals as goal
 
@@ -22,11 +21,6 @@ returns-then-e-i c =
     let a = c.args in
     let l = c.loop-k in
     symbol_there a.order a.compiled.now a.i l.k l.invariant.1 (omega (arith, c.loop-k-test.true, view_symbols a.order a.compiled.now a.view c.requires)) _ c.symbol_at-e.ensures c.if-e-i.true
-
-pub overflow_add-k : goal.overflow_add-k
-overflow_add-k c =
-    let a = c.args in
-    omega (arith, c.loop-k-test.true, view_symbols a.order a.compiled.now a.view c.requires, c.requires.tabled.few)
 
 pub loop-k-preserved : goal.loop-k-preserved
 loop-k-preserved c =

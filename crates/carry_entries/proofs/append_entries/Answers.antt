@@ -1,14 +1,12 @@
 -- Where all entries stay and do not fit, they are counted; else after k turns the bytes of the first k entries are appended. Assumes nothing.
-use Prim.Native.Nat.{◌-◌, ◌≤◌}
+use Prim.Native.Nat.{◌≤◌}
 use mathlib.Core.Path.{◌≡◌, sym, ◌∙◌}
-use mathlib.Core.Logic.{⊎_elim}
 use native.Mathlib.Omega.{arith}
-use borrow.Author.Tests.{not-false}
 use Rattle.base_lists.proofs.Written.{written_short, written_as}
 use Rattle.elf_relocations.specs.Relocations.{relocation_count}
 use Rattle.carry_entries.specs.Code.{moves_of, goal_in, carrying_in, StandsAt}
 use Rattle.carry_entries.proofs.Goals.{stays_for, stays_in}
-use Rattle.carry_entries.proofs.Entries.{put_none, put_next, put_end, put_short, count_short, carried_short, still_long}
+use Rattle.carry_entries.proofs.Entries.{put_none, put_next, put_end, put_short, carried_short, still_long}
 use Rattle.carry_entries.proofs.Entries.{stands_same, brings_placed, brought_same, size_read, table_in, table_index, table_entry}
 use Rattle.carry_entries.proofs.append_entries.Goals as goal
 use Rattle.carry_entries.proofs.append_entries.Goals.{then-not-is_in_gap, else-not-is_in_gap}
@@ -92,13 +90,6 @@ append_entry-next-requires c =
       ],
       omega (arith, s, l.invariant.1.end, c.requires.3, c.requires.4),
     )
-
-pub overflow_add-k : goal.overflow_add-k
-overflow_add-k c =
-    let a = c.args in
-    let h = count_short a.side.order a.file.now (carrying_in a.file.now a.side a.rows.now a.late.now a.numbers.now) a.t
-    c.requires.0.goals.viewed.named.headed c.requires.1 c.requires.2 in
-    record { fits = omega (arith, h, c.loop-k-test.true, c.relocation_count-n.ensures, c.requires.3) }
 
 pub loop-k-preserved : goal.loop-k-preserved
 loop-k-preserved c =

@@ -12,21 +12,21 @@ overflow_cast-result c =
     let offset_at = c.offset_at in
     let a = c.args in
     let shared-slice-known = c.shared_slice_known-1 in
-    record { fits = place_small a.late.now (λ i. omega (arith, c.type_inv.late i)) a.blocks a.x _ _ offset_at.ensures c.in-Moved.is }
+    record { fits = place_small a.late.now (λ i. omega (arith, c.type_inv.late i)) a.blocks a.x _ _ offset_at.ensures c.in-Some.is }
 
-pub returns-in-Moved : goal.returns-in-Moved
-returns-in-Moved c =
+pub returns-in-Some : goal.returns-in-Some
+returns-in-Some c =
     let if1 = c.if-runs in
     let offset_at = c.offset_at in
     let a = c.args in
-    late_to a.runs a.late.now a.blocks a.x _ _ if1.true offset_at.ensures c.in-Moved.is
+    late_to a.runs a.late.now a.blocks a.x _ _ if1.true offset_at.ensures c.in-Some.is
 
-pub returns-in-Unmoved : goal.returns-in-Unmoved
-returns-in-Unmoved c =
+pub returns-in-None : goal.returns-in-None
+returns-in-None c =
     let if1 = c.if-runs in
     let offset_at = c.offset_at in
     let a = c.args in
-    late_stuck a.runs a.late.now a.blocks a.x _ if1.true offset_at.ensures c.in-Unmoved.is
+    late_stuck a.runs a.late.now a.blocks a.x _ if1.true offset_at.ensures c.in-None.is
 
 pub returns : goal.returns
 returns c =

@@ -1,5 +1,4 @@
 -- The lowest of the first t sections. Assumes nothing.
-use Prim.Native.Nat.{◌-◌}
 use mathlib.Core.Path.{◌≡◌}
 use native.Mathlib.Omega.{arith}
 use Rattle.elf_check.proofs.Views.{view_count}

@@ -1,4 +1,4 @@
-use Prim.Native.Nat.{◌-◌, ◌≤◌}
+use Prim.Native.Nat.{◌≤◌}
 use mathlib.Core.Path.{◌≡◌}
 use Rattle.carry_entries.specs.Code.{carrying_in}
 use Rattle.carry_entries.proofs.Entries.{fault_below}
@@ -7,6 +7,3 @@ use Rattle.carry_entries.proofs.loss_fault.Given as goal
 abbrev pub invariant-loop-t : goal.invariant-loop-t
 invariant-loop-t l =
     (l.t ≤ l.n) × (l.best ≡ fault_below l.side.order l.file (carrying_in l.file l.side l.rows l.late l.numbers) l.t)
-
-abbrev pub decreases-loop-t : goal.decreases-loop-t
-decreases-loop-t l = l.n - l.t

@@ -1,5 +1,4 @@
 -- The lowest of the first k entries, or `best`. Assumes nothing.
-use Prim.Native.Nat.{◌-◌}
 use mathlib.Core.Path.{◌≡◌}
 use native.Mathlib.Omega.{arith}
 use Rattle.elf_relocations.specs.Relocations.{relocation_count}

@@ -1,4 +1,4 @@
-use Prim.Native.Nat.{◌-◌, ◌≤◌}
+use Prim.Native.Nat.{◌≤◌}
 use mathlib.Core.Path.{◌≡◌}
 use Rattle.carry_entries.specs.Code.{carrying_in}
 use Rattle.carry_entries.proofs.Entries.{loss_below}
@@ -7,6 +7,3 @@ use Rattle.carry_entries.proofs.loss_in.Given as goal
 abbrev pub invariant-loop-k : goal.invariant-loop-k
 invariant-loop-k l =
     (l.k ≤ l.n) × (l.lowest ≡ loss_below l.side.order l.file (carrying_in l.file l.side l.rows l.late l.numbers) l.t l.best l.k)
-
-abbrev pub decreases-loop-k : goal.decreases-loop-k
-decreases-loop-k l = l.n - l.k

@@ -1,8 +1,6 @@
 -- None before i joins a section of the name. Assumes nothing.
 use native.Mathlib.Omega.{arith}
-use Prim.Native.Nat.{◌-◌}
 use mathlib.Core.Path.{refl}
-use Rattle.carry_homes.specs.Homes.{same_home}
 use Rattle.carry_homes.proofs.Steps.{held_here, held_next, held_self}
 use Rattle.carry_homes.proofs.first_home.Goals as goal
 

@@ -1,6 +1,5 @@
 -- After j turns the first j tables have their homes. Assumes nothing.
 use native.Mathlib.Omega.{arith}
-use Prim.Native.Nat.{◌-◌}
 use mathlib.Core.Path.{refl, ◌∙◌}
 use Rattle.carry_homes.proofs.Steps.{homes_none, homes_end}
 use Rattle.carry_homes.proofs.list_homes.Goals as goal

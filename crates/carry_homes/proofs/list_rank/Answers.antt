@@ -1,6 +1,5 @@
 -- After t turns the tables of the rank below t stand behind those of the ranks before it. Assumes nothing.
 use native.Mathlib.Omega.{arith}
-use Prim.Native.Nat.{◌-◌}
 use mathlib.Core.Path.{refl, ◌∙◌}
 use Rattle.elf_check.proofs.Views.{view_count}
 use Rattle.carry_homes.proofs.Tables.{ranked_over}

@@ -1,6 +1,5 @@
 -- After some ranks their tables are listed; at the end these are all. Assumes nothing.
 use native.Mathlib.Omega.{arith}
-use Prim.Native.Nat.{◌-◌}
 use mathlib.Core.Path.{refl, ◌∙◌}
 use Rattle.carry_homes.proofs.Tables.{ranked_none, ranked_end}
 use Rattle.carry_homes.proofs.list_tables.Goals as goal

@@ -1,6 +1,5 @@
 -- None of the rows before j has the home. Assumes nothing.
 use native.Mathlib.Omega.{arith}
-use Prim.Native.Nat.{◌-◌}
 use mathlib.Core.Path.{refl}
 use Rattle.carry_homes.proofs.Steps.{opened_here, opened_next, opened_none}
 use Rattle.carry_homes.proofs.opened_by.Goals as goal

@@ -1,4 +1,4 @@
-use Prim.Native.Nat.{◌+◌, ◌-◌, ◌≤◌}
+use Prim.Native.Nat.{◌+◌, ◌≤◌}
 use mathlib.Core.Path.{◌≡◌}
 use lib.Dec.{eqb}
 use Rattle.base_lists.specs.Ranges.{first}
@@ -7,6 +7,3 @@ use Rattle.carry_homes.proofs.opened_by.Given as goal
 
 abbrev pub invariant-loop-j : goal.invariant-loop-j
 invariant-loop-j l = (l.j ≤ l.n) × (first (λ k. eqb (home_in l.rows k) (l.stay + l.i)) 0 l.n ≡ first (λ k. eqb (home_in l.rows k) (l.stay + l.i)) l.j l.n)
-
-abbrev pub decreases-loop-j : goal.decreases-loop-j
-decreases-loop-j l = l.n - l.j

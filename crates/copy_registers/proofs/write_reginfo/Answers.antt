@@ -1,7 +1,6 @@
 -- `copy_registers::write_reginfo` meets its contract: after i turns the first i bytes are written, and the rest of the slice is as it was. Assumes nothing.
 use Rattle.copy_registers.proofs.Reginfo.{joining_none, joining_next, joining_end}
 use native.Mathlib.Omega.{arith}
-use Prim.Native.Nat.{◌-◌}
 use mathlib.Core.Path.{refl}
 use lib.ListN.{length-set}
 use Rattle.copy_registers.proofs.write_reginfo.Goals as goal

@@ -1,4 +1,4 @@
--- `draft_lines::append_nops` meets its contract: lines that do not fit are counted by their length, and else i lines are written after i turns.
+-- `draft_lines::append_nops` meets its contract: lines that do not fit are counted by their length, and else as many lines are written as there were turns.
 -- Assumes nothing.
 use Rattle.base_scope.specs.Text.{text}
 use Rattle.base_text.specs.Lines.{lined}
@@ -7,7 +7,7 @@ use Rattle.base_lists.specs.Written.{Written}
 use Rattle.base_lists.proofs.Written.{written_none, written_short, written_then, written_as}
 use Rattle.draft_lines.proofs.Lines.{nop_lines_zero, nop_lines_next, length_nop_lines}
 use native.Mathlib.Omega.{arith}
-use Prim.Native.Nat.{◌+◌, ◌-◌, ◌*◌}
+use Prim.Native.Nat.{◌+◌, ◌*◌}
 use mathlib.Core.Path.{◌≡◌, sym}
 use Rattle.draft_lines.proofs.append_nops.Goals as goal
 
@@ -16,23 +16,23 @@ returns-then-end-out c =
     let a = c.args in
     written_short a.out.now a.at (nop_lines a.n) (a.at + 4 * a.n) (omega (arith, length_nop_lines a.n)) c.if-end-out.true
 
-pub loop-i-init : goal.loop-i-init
-loop-i-init c =
+pub loop-init : goal.loop-init
+loop-init c =
     let a = c.args in
     (omega arith, omega arith, written_as _ _ _ _ _ _ (sym nop_lines_zero) (written_none a.out.now a.at))
 
-pub loop-i-preserved : goal.loop-i-preserved
-loop-i-preserved c =
+pub loop-preserved : goal.loop-preserved
+loop-preserved c =
     let a = c.args in
-    let l = c.loop-i in
+    let l = c.loop in
     let g = c.append_nop-here in
-    let w : Written a.out.now a.at (nop_lines (l.i + 1)) g.result g.new.out =
-    written_as _ _ _ _ _ _ (sym (nop_lines_next l.i)) (written_then a.out.now a.at (nop_lines l.i) l.here l.out (lined (text "nop")) g.result g.new.out l.invariant.2 g.ensures) in
-    (omega arith, omega (arith, w.end, length_nop_lines (l.i + 1)), w)
+    let w : Written a.out.now a.at (nop_lines (l.counter + 1)) g.result g.new.out =
+    written_as _ _ _ _ _ _ (sym (nop_lines_next l.counter)) (written_then a.out.now a.at (nop_lines l.counter) l.here l.out (lined (text "nop")) g.result g.new.out l.invariant.2 g.ensures) in
+    (omega arith, omega (arith, w.end, length_nop_lines (l.counter + 1)), w)
 
 pub returns : goal.returns
 returns c =
     let a = c.args in
-    let l = c.loop-i in
-    let e : l.i ≡ a.n = omega arith in
+    let l = c.loop in
+    let e : l.counter ≡ a.n = omega arith in
     rw e at l.invariant.2

@@ -4,7 +4,6 @@ use Rattle.blocks_file.proofs.Blocks.{count_high}
 use Rattle.base_lists.proofs.Written.{written_none, written_then, written_as}
 use Rattle.draft_text.proofs.Text.{labels_so, labels_zero, labels_next, labels_all}
 use native.Mathlib.Omega.{arith}
-use Prim.Native.Nat.{◌-◌}
 use mathlib.Core.Path.{◌≡◌, sym, ap, ◌∙◌}
 use Rattle.draft_text.proofs.append_labels.Goals as goal
 
@@ -24,9 +23,6 @@ append_label_text-next-requires c =
     let l = c.loop-k in
     let q = c.requires in
     (q.0, omega (arith, q.1), omega (arith, l.invariant.2), q.3)
-
-pub loop-k-smaller : goal.loop-k-smaller
-loop-k-smaller c = omega arith
 
 pub loop-k-preserved : goal.loop-k-preserved
 loop-k-preserved c =

@@ -6,7 +6,7 @@ use Rattle.draft_text.specs.Draft.{lines_text}
 use Rattle.draft_text.proofs.Text.{lines_zero, lines_next}
 use Rattle.draft_text.proofs.Places.{ends_start, ends_at, ends_next}
 use native.Mathlib.Omega.{arith}
-use Prim.Native.Nat.{◌-◌, ◌*◌}
+use Prim.Native.Nat.{◌*◌}
 use mathlib.Core.Path.{◌≡◌, sym, ap}
 use Rattle.draft_text.proofs.append_lines.Goals as goal
 
@@ -15,8 +15,8 @@ loop-j-init c =
     let a = c.args in
     (omega arith, written_as _ _ _ _ _ _ (sym (lines_zero _ a.file.now)) (written_none _ _), omega arith, ends_start _ a.file.now)
 
-pub overflow_mul-count : goal.overflow_mul-count
-overflow_mul-count c = omega (arith, count_high c.args.file.now, c.requires.1)
+pub overflow_mul-j-end : goal.overflow_mul-j-end
+overflow_mul-j-end c = omega (arith, count_high c.args.file.now, c.requires.1)
 
 pub bounds-ends-c : goal.bounds-ends-c
 bounds-ends-c c = omega (arith, c.line_code-c.ensures.2, c.loop-j.invariant.3.many)
@@ -37,12 +37,6 @@ end_after-requires c =
 
 pub bounds-ends-c-in-loop-j : goal.bounds-ends-c-in-loop-j
 bounds-ends-c-in-loop-j c = omega (arith, c.line_code-c.ensures.2, c.loop-j.invariant.3.many)
-
-pub overflow_add-j : goal.overflow_add-j
-overflow_add-j c = omega (arith, c.loop-j-test.true, count_high c.args.file.now, c.requires.1)
-
-pub loop-j-smaller : goal.loop-j-smaller
-loop-j-smaller c = omega (arith, c.loop-j-test.true)
 
 pub loop-j-preserved : goal.loop-j-preserved
 loop-j-preserved c =

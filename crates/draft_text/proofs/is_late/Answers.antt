@@ -4,7 +4,7 @@ use Rattle.blocks_file.specs.Blocks.{block_count}
 use Rattle.draft_text.specs.Draft.{late_at}
 use Rattle.draft_text.proofs.Late.{some_late, none_late}
 use native.Mathlib.Omega.{arith}
-use Prim.Native.Nat.{◌-◌, ◌≤◌, ◌<◌}
+use Prim.Native.Nat.{◌≤◌, ◌<◌}
 use mathlib.Core.Path.{refl, sym, ◌∙◌}
 use Rattle.draft_text.proofs.is_late.Goals as goal
 

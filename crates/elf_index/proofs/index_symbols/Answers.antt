@@ -4,7 +4,6 @@ use Rattle.base_index.proofs.Chains.{room_same}
 use Rattle.elf_symbols.proofs.Symbols.{table_count, names_up, names_inside, entries_in}
 use Rattle.elf_index.proofs.Names.{hashed_none, hashed_next, hashed_built}
 use native.Mathlib.Omega.{arith}
-use Prim.Native.Nat.{◌-◌}
 use mathlib.Core.Path.{◌≡◌, refl}
 use Rattle.elf_index.proofs.index_symbols.Goals as goal
 
@@ -16,7 +15,7 @@ strings_of-strings-requires c =
 pub loop-k-init : goal.loop-k-init
 loop-k-init c =
     let a = c.args in
-    (omega arith, hashed_none a.order a.file.now a.index.now)
+    hashed_none a.order a.file.now a.index.now
 
 pub put_name-requires : goal.put_name-requires
 put_name-requires c =
@@ -25,7 +24,7 @@ put_name-requires c =
     let n = table_count a.order a.file.now a.symbols c.requires.0 in (
       entries_in a.order a.file.now a.symbols c.requires.0 a.symbols.at _ refl c.strings_of-strings.ensures,
       omega (arith, n),
-      omega (arith, n, c.requires.0.tabled.few, c.requires.1.long, l.invariant.1.long),
+      omega (arith, n, c.requires.0.tabled.few, c.requires.1.long, l.invariant.long),
     )
 
 pub loop-k-preserved : goal.loop-k-preserved
@@ -33,17 +32,17 @@ loop-k-preserved c =
     let a = c.args in
     let l = c.loop-k in
     let n = table_count a.order a.file.now a.symbols c.requires.0 in
-    (omega arith, hashed_next a.order a.file.now l.k a.index.now l.index _ (omega (arith, n, c.requires.0.tabled.few, c.requires.1.long)) l.invariant.1 c.put_name.ensures)
+    hashed_next a.order a.file.now l.k a.index.now l.index _ (omega (arith, n, c.requires.0.tabled.few, c.requires.1.long)) l.invariant c.put_name.ensures
 
 pub build-requires : goal.build-requires
 build-requires c =
     let a = c.args in
     let l = c.loop-k in
-    (room_same SYMBOL_LIMIT a.index.now l.index l.invariant.1.long c.requires.1, omega (arith, c.requires.0.tabled.few, table_count a.order a.file.now a.symbols c.requires.0))
+    (room_same SYMBOL_LIMIT a.index.now l.index l.invariant.long c.requires.1, omega (arith, c.requires.0.tabled.few, table_count a.order a.file.now a.symbols c.requires.0))
 
 pub returns : goal.returns
 returns c =
     let a = c.args in
     let l = c.loop-k in
     let e : l.k ≡ a.symbols.count = omega arith in
-    hashed_built a.order a.file.now a.symbols.count a.index.now l.index _ (table_count a.order a.file.now a.symbols c.requires.0) (rw e at l.invariant.1) c.build.ensures
+    hashed_built a.order a.file.now a.symbols.count a.index.now l.index _ (table_count a.order a.file.now a.symbols c.requires.0) (rw e at l.invariant) c.build.ensures

@@ -6,7 +6,6 @@ use Rattle.elf_symbols.specs.Symbols.{symbol_count, is_symbol_named}
 use Rattle.elf_symbols.proofs.Symbols.{named_found, table_count, names_up, names_inside, entries_in}
 use Rattle.elf_index.proofs.Names.{named_hash}
 use native.Mathlib.Omega.{arith}
-use Prim.Native.Nat.{◌-◌}
 use mathlib.Core.Path.{◌≡◌, refl, sym, ◌∙◌}
 use mathlib.Core.List.{◌++◌}
 use Rattle.elf_index.proofs.symbol_joined.Goals as goal

@@ -3,12 +3,11 @@ use Rattle.base_lists.proofs.Ranges.{first_here, first_next, first_end}
 use Rattle.elf_relocations.specs.Relocations.{bad_table}
 use Rattle.elf_relocations.proofs.Relocations.{fault_at_lem, fault_none}
 use native.Mathlib.Omega.{arith}
-use Prim.Native.Nat.{◌-◌}
 use mathlib.Core.Path.{◌≡◌, refl, sym, ◌∙◌}
 use Rattle.elf_relocations.proofs.relocation_fault.Goals as goal
 
 pub loop-i-init : goal.loop-i-init
-loop-i-init c = (omega arith, refl)
+loop-i-init c = refl
 
 pub returns-then-is_bad_table : goal.returns-then-is_bad_table
 returns-then-is_bad_table c =
@@ -16,10 +15,7 @@ returns-then-is_bad_table c =
     let l = c.loop-i in
     let n = c.section_count-n in
     let bad = sym c.is_bad_table.ensures ∙ c.if-is_bad_table.true in
-    fault_at_lem a.order a.file.now n.result l.i n.ensures.0 (omega arith) (l.invariant.1 ∙ first_here (bad_table a.order a.file.now) l.i n.result (omega arith) bad)
-
-pub loop-i-smaller : goal.loop-i-smaller
-loop-i-smaller c = omega arith
+    fault_at_lem a.order a.file.now n.result l.i n.ensures.0 (omega arith) (l.invariant ∙ first_here (bad_table a.order a.file.now) l.i n.result (omega arith) bad)
 
 pub loop-i-preserved : goal.loop-i-preserved
 loop-i-preserved c =
@@ -27,7 +23,7 @@ loop-i-preserved c =
     let l = c.loop-i in
     let n = c.section_count-n in
     let good = sym c.is_bad_table.ensures ∙ c.if-is_bad_table.false in
-    (omega arith, l.invariant.1 ∙ first_next (bad_table a.order a.file.now) l.i n.result (omega arith) good)
+    l.invariant ∙ first_next (bad_table a.order a.file.now) l.i n.result (omega arith) good
 
 pub returns : goal.returns
 returns c =
@@ -35,4 +31,4 @@ returns c =
     let l = c.loop-i in
     let n = c.section_count-n in
     let e : l.i ≡ n.result = omega arith in
-    fault_none a.order a.file.now n.result n.ensures.0 (l.invariant.1 ∙ first_end (bad_table a.order a.file.now) l.i n.result (omega arith) ∙ e)
+    fault_none a.order a.file.now n.result n.ensures.0 (l.invariant ∙ first_end (bad_table a.order a.file.now) l.i n.result (omega arith) ∙ e)

@@ -1,11 +1,7 @@
 use Rattle.base_lists.specs.Ranges.{first}
 use Rattle.elf_sections.specs.Headers.{bad_section}
-use Prim.Native.Nat.{◌-◌, ◌≤◌}
 use mathlib.Core.Path.{◌≡◌}
 use Rattle.elf_sections.proofs.first_bad_section.Given as goal
 
 abbrev pub invariant-loop-i : goal.invariant-loop-i
-invariant-loop-i l = (l.i ≤ l.n) × (first (bad_section l.order l.file) 0 l.n ≡ first (bad_section l.order l.file) l.i l.n)
-
-abbrev pub decreases-loop-i : goal.decreases-loop-i
-decreases-loop-i l = l.n - l.i
+invariant-loop-i l = first (bad_section l.order l.file) 0 l.n ≡ first (bad_section l.order l.file) l.i l.n

@@ -1,11 +1,7 @@
 use Rattle.base_lists.specs.Ranges.{first}
 use Rattle.elf_symbol_faults.specs.Faults.{bad_symbol}
-use Prim.Native.Nat.{◌-◌, ◌≤◌}
 use mathlib.Core.Path.{◌≡◌}
 use Rattle.elf_symbol_faults.proofs.first_bad_symbol.Given as goal
 
 abbrev pub invariant-loop-k : goal.invariant-loop-k
-invariant-loop-k l = (l.k ≤ l.n) × (first (bad_symbol l.order l.file) 0 l.n ≡ first (bad_symbol l.order l.file) l.k l.n)
-
-abbrev pub decreases-loop-k : goal.decreases-loop-k
-decreases-loop-k l = l.n - l.k
+invariant-loop-k l = first (bad_symbol l.order l.file) 0 l.n ≡ first (bad_symbol l.order l.file) l.k l.n

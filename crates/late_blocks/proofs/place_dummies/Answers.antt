@@ -3,23 +3,23 @@
 use Rattle.late_blocks.proofs.Items.{spot_at, spot_lost, placing_none, placing_lost, placing_fits, placing_next, placing_end}
 use Rattle.late_moves.specs.Moves.{item_place, item_fault}
 use native.Mathlib.Omega.{arith}
-use Prim.Native.Nat.{◌+◌, ◌-◌, ◌≤◌}
+use Prim.Native.Nat.{◌+◌, ◌≤◌}
 use lib.ListN.{length}
 use Rattle.late_blocks.proofs.place_dummies.Goals as goal
 use Rattle.late_blocks.proofs.place_dummies.Goals.{After-write24-arg-1}
 
 -- the place found lies inside .rodata
 inside : (c : After-write24-arg-1)
-    → c.in-At.p + 4 ≤ length c.args.rodata.now
+    → c.in-Some.p + 4 ≤ length c.args.rodata.now
 inside c =
     let a = c.args in
     let q = c.requires in
     let l = c.loop-k in
-    let p = c.in-At.p in
+    let p = c.in-Some.p in
     let r = c.dummy_spot in
     let t =
     spot_at (item_fault a.order a.file.now a.rodata.now a.i l.here l.k)
-    (item_place a.order a.file.now a.rodata.now a.i l.here l.k) p r.result r.ensures c.in-At.is in
+    (item_place a.order a.file.now a.rodata.now a.i l.here l.k) p r.result r.ensures c.in-Some.is in
     placing_fits a.order a.file.now a.rodata.now a.i a.last a.count a.late.now a.at l.k l.here l.late l.invariant (omega arith) p t.0 t.1 q.2
 
 pub loop-k-init : goal.loop-k-init
@@ -43,24 +43,24 @@ loop-k-preserved c =
     let a = c.args in
     let q = c.requires in
     let l = c.loop-k in
-    let p = c.in-At.p in
+    let p = c.in-Some.p in
     let r = c.dummy_spot in
     let t =
     spot_at (item_fault a.order a.file.now a.rodata.now a.i l.here l.k)
-    (item_place a.order a.file.now a.rodata.now a.i l.here l.k) p r.result r.ensures c.in-At.is in
+    (item_place a.order a.file.now a.rodata.now a.i l.here l.k) p r.result r.ensures c.in-Some.is in
     let n =
     placing_next a.order a.file.now a.rodata.now a.i a.last a.count a.late.now a.at l.k l.here l.late l.invariant (omega arith) p t.0 t.1 q.2
     q.5 in
     rw c.write24.ensures n
 
-pub returns-in-Lost : goal.returns-in-Lost
-returns-in-Lost c =
+pub returns-in-None : goal.returns-in-None
+returns-in-None c =
     let a = c.args in
     let l = c.loop-k in
     let r = c.dummy_spot in
     let t =
     spot_lost (item_fault a.order a.file.now a.rodata.now a.i l.here l.k)
-    (item_place a.order a.file.now a.rodata.now a.i l.here l.k) r.result r.ensures c.in-Lost.is in
+    (item_place a.order a.file.now a.rodata.now a.i l.here l.k) r.result r.ensures c.in-None.is in
     placing_lost a.order a.file.now a.rodata.now a.i a.last a.count a.late.now a.at l.k l.here l.late l.invariant (omega arith) t
 
 pub returns : goal.returns

@@ -7,7 +7,6 @@ use Rattle.blocks_file.specs.Blocks.{block_count}
 use Rattle.base_lists.proofs.Ranges.{sum_zero, sum_next}
 use Rattle.base_lists.specs.Ranges.{sum}
 use native.Mathlib.Omega.{arith}
-use Prim.Native.Nat.{◌-◌}
 use mathlib.Core.Path.{◌≡◌, sym, ap, ◌∙◌}
 use Rattle.late_length.proofs.late_length.Goals as goal
 
@@ -18,9 +17,6 @@ loop-i-init c =
 
 pub overflow_add-n : goal.overflow_add-n
 overflow_add-n c = omega (arith, count_high c.args.file.now, c.late_bytes-n.ensures.1)
-
-pub overflow_add-i : goal.overflow_add-i
-overflow_add-i c = omega (arith, count_high c.args.file.now)
 
 pub loop-i-preserved : goal.loop-i-preserved
 loop-i-preserved c =

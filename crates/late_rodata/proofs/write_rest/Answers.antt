@@ -1,4 +1,4 @@
--- `late_rodata::write_rest` meets its contract: before each turn the bytes from the last.rodata block copied up to k are written, and a turn adds the run at k.
+-- `late_rodata::write_rest` meets its contract: before each turn the bytes from the last .rodata block copied up to k are written, and a turn adds the run at k.
 -- Assumes nothing.
 use Rattle.late_rodata.specs.Writing.{rest_read}
 use Rattle.late_rodata.proofs.Writing.{going_none, rest_offset, rest_more, rest_next, rest_end}

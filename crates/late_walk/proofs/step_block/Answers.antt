@@ -49,38 +49,38 @@ overflow_mul-result c = omega (arith, (counted (goal.at.overflow_mul-result c).A
 pub overflow_add-result : goal.overflow_add-result
 overflow_add-result c = omega (arith, (counted (goal.at.overflow_add-result c).After-dummy_count-count).1, c.requires.offset)
 
-pub overflow_add-result-in-At : goal.overflow_add-result-in-At
-overflow_add-result-in-At c = omega (arith, (counted (goal.at.overflow_add-result-in-At c).After-dummy_count-count).1, c.requires.offset, c.jump_table-bytes.ensures.1)
-
-pub overflow_add-result-in-At-2 : goal.overflow_add-result-in-At-2
-overflow_add-result-in-At-2 c = omega (arith, (counted (goal.at.overflow_add-result-in-At-2 c).After-dummy_count-count).1, c.requires.few)
-
-pub returns-in-At : goal.returns-in-At
-returns-in-At c =
+pub returns-in_err-end : goal.returns-in_err-end
+returns-in_err-end c =
     let a = c.args in
     let q = c.requires in
     let t = sym c.is_live.ensures ∙ c.if-is_live.true in
     let n = c.dummy_count-count in
     let j = c.jump_table-bytes in
-    let d = counted (goal.at.returns-in-At c).After-dummy_count-count in
+    let d = counted (goal.at.returns-in_err-end c).After-dummy_count-count in
     let b = c.place_block in
-    let p = c.in-At.end in
-    let s = spot_sound a.order a.file.now a.rodata.now a.i a.row.last (n.result + 1) p b.result b.ensures.0 c.in-At.is in (
-      step_next a.order _ a.file.now a.rodata.now a.i a.row n.result j.result t d.0 j.ensures.0 p s.0 s.1,
+    let h = spot_unsound a.order a.file.now a.rodata.now a.i a.row.last (n.result + 1) b.result b.ensures.0 c.in_err-end.was in (
+      c.from_residual.ensures ∙ step_stop a.order _ a.file.now a.rodata.now a.i a.row n.result j.result t d.0 j.ensures.0 h,
       words_live a.order _ a.file.now a.rodata.now a.i a.row n.result j.result t d.0 j.ensures.0 a.late.now _ (LATE_WORDS + 3 * a.row.dummies) b.ensures.1,
     )
 
-pub returns-in-Lost : goal.returns-in-Lost
-returns-in-Lost c =
+pub overflow_add-result-then-is_live : goal.overflow_add-result-then-is_live
+overflow_add-result-then-is_live c = omega (arith, (counted (goal.at.overflow_add-result-then-is_live c).After-dummy_count-count).1, c.requires.offset, c.jump_table-bytes.ensures.1)
+
+pub overflow_add-result-then-is_live-2 : goal.overflow_add-result-then-is_live-2
+overflow_add-result-then-is_live-2 c = omega (arith, (counted (goal.at.overflow_add-result-then-is_live-2 c).After-dummy_count-count).1, c.requires.few)
+
+pub returns-then-is_live : goal.returns-then-is_live
+returns-then-is_live c =
     let a = c.args in
     let q = c.requires in
     let t = sym c.is_live.ensures ∙ c.if-is_live.true in
     let n = c.dummy_count-count in
     let j = c.jump_table-bytes in
-    let d = counted (goal.at.returns-in-Lost c).After-dummy_count-count in
+    let d = counted (goal.at.returns-then-is_live c).After-dummy_count-count in
     let b = c.place_block in
-    let h = spot_unsound a.order a.file.now a.rodata.now a.i a.row.last (n.result + 1) b.result b.ensures.0 c.in-Lost.is in (
-      step_stop a.order _ a.file.now a.rodata.now a.i a.row n.result j.result t d.0 j.ensures.0 h,
+    let p = c.in_ok-end.end in
+    let s = spot_sound a.order a.file.now a.rodata.now a.i a.row.last (n.result + 1) p b.result b.ensures.0 c.in_ok-end.was in (
+      step_next a.order _ a.file.now a.rodata.now a.i a.row n.result j.result t d.0 j.ensures.0 p s.0 s.1,
       words_live a.order _ a.file.now a.rodata.now a.i a.row n.result j.result t d.0 j.ensures.0 a.late.now _ (LATE_WORDS + 3 * a.row.dummies) b.ensures.1,
     )
 

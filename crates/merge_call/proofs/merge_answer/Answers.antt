@@ -11,7 +11,7 @@ returns-then-breaks_limits c =
     let args = c.args in
     let breaks-limits = c.breaks_limits in
     let if1 = c.if-breaks_limits in
-    let refusal = c.refusal in
+    let refusal = c.refused in
     answered_as _ _ _ _ _ (verdict_over args.compiled.now args.assembled.now args.file.now args.path.now args.flag args.mode _ _ _ _ _ (sym breaks-limits.ensures ∙ if1.true)) (answered_refused _ _ _ _ _ _ refusal.ensures refl)
 
 pub take_inputs-requires : goal.take_inputs-requires
@@ -25,7 +25,7 @@ pub inputs_of-inputs-requires : goal.inputs_of-inputs-requires
 inputs_of-inputs-requires c =
     let args = c.args in
     let take-inputs = c.take_inputs in
-    took_sound args.compiled.now args.assembled.now args.file.now _ _ _ take-inputs.ensures _ c.in-Blocks.is
+    took_sound args.compiled.now args.assembled.now args.file.now _ _ _ take-inputs.ensures _ c.in-Ok.is
 
 pub head_length-head-requires : goal.head_length-head-requires
 head_length-head-requires c =
@@ -44,16 +44,16 @@ merge_carried-requires c =
     let inputs-of = c.inputs_of-inputs in
     let head-length = c.head_length-head in
     let l = merge_limits _ _ _ _ _ _ _ _ _ _ (sym breaks-limits.ensures ∙ if1.false) in
-    (inputs_read args.compiled.now args.assembled.now args.file.now _ _ _ take-inputs.ensures _ c.in-Blocks.is l.compiled_limit_lem l.assembled_limit_lem _ inputs-of.ensures, record { short = path_short args.path.now l.path_is; head = head-length.ensures.0; few = head-length.ensures.1 }, record { table_long = rw take-inputs.auto.table l.table_size; places_long = rw take-inputs.auto.places l.places_size; steps_long_lem = l.steps_size; index_long_lem = l.index_size })
+    (inputs_read args.compiled.now args.assembled.now args.file.now _ _ _ take-inputs.ensures _ c.in-Ok.is l.compiled_limit_lem l.assembled_limit_lem _ inputs-of.ensures, record { short = path_short args.path.now l.path_is; head = head-length.ensures.0; few = head-length.ensures.1 }, record { table_long = rw take-inputs.auto.table l.table_size; places_long = rw take-inputs.auto.places l.places_size; steps_long_lem = l.steps_size; index_long_lem = l.index_size })
 
-pub shape_of-table-in-Blocks : goal.shape_of-table-in-Blocks
-shape_of-table-in-Blocks c =
+pub shape_of-table-in-Ok : goal.shape_of-table-in-Ok
+shape_of-table-in-Ok c =
     let merge-carried = c.merge_carried in
     let take-inputs = c.take_inputs in
     merge-carried.auto.table ∙ take-inputs.auto.table
 
-pub returns-in-Blocks : goal.returns-in-Blocks
-returns-in-Blocks c =
+pub returns-in-Ok : goal.returns-in-Ok
+returns-in-Ok c =
     let breaks-limits = c.breaks_limits in
     let if1 = c.if-breaks_limits in
     let args = c.args in
@@ -62,14 +62,14 @@ returns-in-Blocks c =
     let head-length = c.head_length-head in
     let merge-carried = c.merge_carried in
     let l = merge_limits _ _ _ _ _ _ _ _ _ _ (sym breaks-limits.ensures ∙ if1.false) in
-    let q = inputs_read args.compiled.now args.assembled.now args.file.now _ _ _ take-inputs.ensures _ c.in-Blocks.is l.compiled_limit_lem l.assembled_limit_lem _ inputs-of.ensures in
-    answered_as _ _ _ _ _ (verdict_stages args.compiled.now args.assembled.now args.file.now args.path.now args.flag args.mode _ _ _ _ _ (sym breaks-limits.ensures ∙ if1.false) _ take-inputs.ensures.verdict _ c.in-Blocks.is _ inputs-of.ensures _ q.placed) merge-carried.ensures
+    let q = inputs_read args.compiled.now args.assembled.now args.file.now _ _ _ take-inputs.ensures _ c.in-Ok.is l.compiled_limit_lem l.assembled_limit_lem _ inputs-of.ensures in
+    answered_as _ _ _ _ _ (verdict_stages args.compiled.now args.assembled.now args.file.now args.path.now args.flag args.mode _ _ _ _ _ (sym breaks-limits.ensures ∙ if1.false) _ take-inputs.ensures.verdict _ c.in-Ok.is _ inputs-of.ensures _ q.placed) merge-carried.ensures
 
-pub returns-in-Refused : goal.returns-in-Refused
-returns-in-Refused c =
+pub returns-in-Err : goal.returns-in-Err
+returns-in-Err c =
     let args = c.args in
     let breaks-limits = c.breaks_limits in
     let if1 = c.if-breaks_limits in
     let take-inputs = c.take_inputs in
-    let refusal2 = c.refusal-in-Refused in
-    answered_as _ _ _ _ _ (verdict_refused args.compiled.now args.assembled.now args.file.now args.path.now args.flag args.mode _ _ _ _ _ (sym breaks-limits.ensures ∙ if1.false) _ take-inputs.ensures.verdict _ _ _ c.in-Refused.is) (answered_refused _ _ _ _ _ _ refusal2.ensures refl)
+    let refusal2 = c.refused-in-Err in
+    answered_as _ _ _ _ _ (verdict_refused args.compiled.now args.assembled.now args.file.now args.path.now args.flag args.mode _ _ _ _ _ (sym breaks-limits.ensures ∙ if1.false) _ take-inputs.ensures.verdict _ _ _ c.in-Err.is) (answered_refused _ _ _ _ _ _ refusal2.ensures refl)

@@ -24,24 +24,24 @@ merge_late-requires c =
     let pre = c.requires in
     let line-up = c.line_up in
     let index-names = c.index_names in
-    (stage_read args.compiled.now args.assembled.now args.file.now args.inputs (blocks_part args.table.now) (places_part args.places.now) pre.0 _ line-up.ensures _ c.in-Lined.is, pre.1, record { table_long = pre.2.table_long; places_long = pre.2.places_long; steps_long_lem = pre.2.steps_long_lem; index_long_lem = rw index-names.auto.index pre.2.index_long_lem }, index-names.ensures)
+    (stage_read args.compiled.now args.assembled.now args.file.now args.inputs (blocks_part args.table.now) (places_part args.places.now) pre.0 _ line-up.ensures _ c.in-Ok.is, pre.1, record { table_long = pre.2.table_long; places_long = pre.2.places_long; steps_long_lem = pre.2.steps_long_lem; index_long_lem = rw index-names.auto.index pre.2.index_long_lem }, index-names.ensures)
 
-pub shape_of-index-in-Lined : goal.shape_of-index-in-Lined
-shape_of-index-in-Lined c =
+pub shape_of-index-in-Ok : goal.shape_of-index-in-Ok
+shape_of-index-in-Ok c =
     let merge-late = c.merge_late in
     let index-names = c.index_names in
     merge-late.auto.index ∙ index-names.auto.index
 
-pub returns-in-Lined : goal.returns-in-Lined
-returns-in-Lined c =
+pub returns-in-Ok : goal.returns-in-Ok
+returns-in-Ok c =
     let args = c.args in
     let line-up = c.line_up in
     let merge-late = c.merge_late in
-    answered_as _ _ _ _ _ (answer_lined args.inputs.order args.compiled.now args.assembled.now (held_places args.file.now args.places.now) args.file.now args.path.now args.flag args.manner.mode (length args.out.now) _ line-up.ensures _ c.in-Lined.is) merge-late.ensures
+    answered_as _ _ _ _ _ (answer_lined args.inputs.order args.compiled.now args.assembled.now (held_places args.file.now args.places.now) args.file.now args.path.now args.flag args.manner.mode (length args.out.now) _ line-up.ensures _ c.in-Ok.is) merge-late.ensures
 
-pub returns-in-Refused : goal.returns-in-Refused
-returns-in-Refused c =
+pub returns-in-Err : goal.returns-in-Err
+returns-in-Err c =
     let args = c.args in
     let line-up = c.line_up in
-    let refusal = c.refusal in
-    answered_as _ _ _ _ _ (answer_unlined args.inputs.order args.compiled.now args.assembled.now (held_places args.file.now args.places.now) args.file.now args.path.now args.flag args.manner.mode (length args.out.now) _ line-up.ensures _ _ _ c.in-Refused.is) (answered_refused _ _ _ _ _ _ refusal.ensures refl)
+    let refusal = c.refused in
+    answered_as _ _ _ _ _ (answer_unlined args.inputs.order args.compiled.now args.assembled.now (held_places args.file.now args.places.now) args.file.now args.path.now args.flag args.manner.mode (length args.out.now) _ line-up.ensures _ _ _ c.in-Err.is) (answered_refused _ _ _ _ _ _ refusal.ensures refl)

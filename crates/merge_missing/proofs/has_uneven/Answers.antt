@@ -5,7 +5,7 @@ use Rattle.blocks_places.specs.Lines.{line_count}
 use Rattle.blocks_places.specs.Table.{places_in}
 use Rattle.merge_missing.specs.Missing.{is_uneven}
 use Rattle.merge_missing.proofs.Ends.{uneven_here, uneven_none, uneven_kept}
-use Prim.Native.Nat.{◌-◌, ◌≤◌, ◌<◌}
+use Prim.Native.Nat.{◌≤◌, ◌<◌}
 use mathlib.Core.Path.{refl, sym, ◌∙◌}
 use native.Mathlib.Omega.{arith}
 use Rattle.merge_missing.proofs.has_uneven.Goals as goal
@@ -13,8 +13,8 @@ use Rattle.merge_missing.proofs.has_uneven.Goals as goal
 pub loop-j-init : goal.loop-j-init
 loop-j-init c = (omega arith, refl)
 
-pub overflow_mul-blocks : goal.overflow_mul-blocks
-overflow_mul-blocks c = omega (arith, count_high c.args.file.now)
+pub overflow_mul-j-end : goal.overflow_mul-j-end
+overflow_mul-j-end c = omega (arith, count_high c.args.file.now)
 
 pub is_uneven-requires : goal.is_uneven-requires
 is_uneven-requires c =
@@ -31,9 +31,6 @@ returns-then-is_uneven c =
     let l = c.loop-j in
     let h : l.j < line_count a.file.now = omega arith in
     uneven_here P a.file.now a.code l.j (sym c.leaves_out.ensures ∙ c.if-leaves_out.true) h (sym c.is_uneven.ensures ∙ c.if-is_uneven.true)
-
-pub overflow_add-j : goal.overflow_add-j
-overflow_add-j c = omega (arith, count_high c.args.file.now)
 
 pub loop-j-preserved : goal.loop-j-preserved
 loop-j-preserved c =

@@ -3,7 +3,7 @@ use Rattle.base_lists.proofs.Ranges.{first_next}
 use Rattle.base_scope.specs.Codes.{LATE_RODATA}
 use Rattle.merge_missing.specs.Missing.{goes_to}
 use Rattle.merge_missing.proofs.Ends.{target_here, target_none}
-use Prim.Native.Nat.{◌+◌, ◌-◌}
+use Prim.Native.Nat.{◌+◌}
 use mathlib.Core.Path.{refl, sym, ◌∙◌}
 use native.Mathlib.Omega.{arith}
 use Rattle.merge_missing.proofs.is_target.Goals as goal

@@ -3,7 +3,7 @@ use Rattle.base_lists.proofs.Ranges.{first_next}
 use Rattle.base_scope.specs.Codes.{CODES}
 use Rattle.merge_missing.specs.Ends.{lacking_by, missing_by}
 use Rattle.merge_missing.proofs.Ends.{lowest_here, lowest_none}
-use Prim.Native.Nat.{◌+◌, ◌-◌}
+use Prim.Native.Nat.{◌+◌}
 use mathlib.Core.Path.{refl, sym, ap, ◌∙◌}
 use mathlib.Core.Bool.{Bool}
 use lib.ListN.{get_or}

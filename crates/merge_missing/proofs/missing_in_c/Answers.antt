@@ -6,7 +6,7 @@ use Rattle.blocks_places.specs.Table.{places_in}
 use Rattle.blocks_spans.proofs.Table.{ends_code}
 use Rattle.merge_missing.specs.Missing.{missing_c}
 use Rattle.merge_missing.proofs.Ends.{lowest_here, lowest_none}
-use Prim.Native.Nat.{◌+◌, ◌-◌}
+use Prim.Native.Nat.{◌+◌}
 use mathlib.Core.Path.{refl, sym, ◌∙◌}
 use native.Mathlib.Omega.{arith}
 use Rattle.merge_missing.proofs.missing_in_c.Goals as goal
@@ -27,9 +27,6 @@ returns-then-is_missing_c c =
     let P = places_in a.places.now (line_count a.file.now) in
     let l = c.loop-code in
     lowest_here (missing_c a.inputs.order a.compiled.now a.assembled.now P a.file.now) l.code l.invariant.2 c.loop-code-test.true (sym c.is_missing_c.ensures ∙ c.if-is_missing_c.true)
-
-pub loop-code-smaller : goal.loop-code-smaller
-loop-code-smaller c = omega (arith, c.loop-code-test.true)
 
 pub loop-code-preserved : goal.loop-code-preserved
 loop-code-preserved c =

@@ -1,12 +1,11 @@
--- The three arms are the three cases of `placing_verdict`. Assumes nothing.
-use Rattle.open_inputs.proofs.Order.{placing_placed, placing_8, placing_9}
+-- Lines that are placed pass; a fault is refused. Assumes nothing.
+use Rattle.open_inputs.specs.Open.{placing_verdict}
+use Rattle.open_inputs.proofs.Order.{placing_placed}
+use mathlib.Core.Path.{sym, ap, ◌∙◌}
 use Rattle.open_inputs.proofs.placing_verdict.Goals as goal
 
-pub returns-in-Placed : goal.returns-in-Placed
-returns-in-Placed c = placing_placed _ c.in-Placed.is
+pub returns-in-Ok : goal.returns-in-Ok
+returns-in-Ok c = placing_placed _ c.in-Ok.is
 
-pub returns-in-Misplaced : goal.returns-in-Misplaced
-returns-in-Misplaced c = placing_8 _ _ c.in-Misplaced.is
-
-pub returns-in-Misaligned : goal.returns-in-Misaligned
-returns-in-Misaligned c = placing_9 _ _ c.in-Misaligned.is
+pub returns-in-Err : goal.returns-in-Err
+returns-in-Err c = sym c.place_refusal.ensures ∙ ap placing_verdict (sym c.in-Err.is)

@@ -9,6 +9,6 @@ pub rewrite-requires : goal.rewrite-requires
 rewrite-requires c =
     let order = c.order_of-order.result in
     let file = c.args.file.now in
-    let accepted = check_in_lem order file c.order_of-order.ensures ∙ sym c.check.ensures ∙ c.in-Accepted.is in
+    let accepted = check_in_lem order file c.order_of-order.ensures ∙ sym c.check.ensures ∙ c.in-Ok.is in
     let passed = passed_of order file accepted in
     own_ready order file passed.header passed.sections (omega (arith, c.if-file-gt-FILE_LIMIT.false))

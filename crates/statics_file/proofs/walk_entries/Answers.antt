@@ -2,7 +2,6 @@
 -- at the first entry at fault. Assumes nothing.
 use Rattle.statics_file.proofs.File.{walk_none, walk_long, walk_stop, walk_next, walk_end}
 use native.Mathlib.Omega.{arith}
-use Prim.Native.Nat.{◌-◌}
 use Rattle.statics_file.proofs.walk_entries.Goals as goal
 
 pub loop-j-init : goal.loop-j-init
@@ -41,9 +40,6 @@ overflow_add-opened c = omega (arith, c.requires.4, c.loop-j.invariant.few.0, c.
 
 pub overflow_add-closed : goal.overflow_add-closed
 overflow_add-closed c = omega (arith, c.requires.4, c.loop-j.invariant.few.1, c.closes-closed.ensures.1)
-
-pub overflow_add-j : goal.overflow_add-j
-overflow_add-j c = omega (arith, c.requires.4)
 
 pub loop-j-preserved : goal.loop-j-preserved
 loop-j-preserved c =

@@ -1,9 +1,7 @@
 -- After i turns the array holds the first i words, and zeros behind them. Assumes nothing.
-use lib.ListN.{length-map}
 use Rattle.statics_shift.proofs.Shift.{some_none, some_put, some_all}
 use native.Mathlib.Omega.{arith}
-use Prim.Native.Nat.{◌-◌}
-use mathlib.Core.Path.{◌≡◌, sym, ◌∙◌}
+use mathlib.Core.Path.{◌≡◌, ◌∙◌}
 use lib.ListN.{length}
 use Rattle.statics_shift.proofs.moved_words.Goals as goal
 use Rattle.statics_shift.proofs.moved_words.Goals.{Start}

@@ -1,4 +1,4 @@
--- A header that leaves.mdebug is 17 at 0; else its tables are walked. Assumes nothing.
+-- A header that leaves .mdebug is 17 at 0; else its tables are walked. Assumes nothing.
 use Rattle.statics_walk.proofs.Walk.{part_at, debug_short, debug_read}
 use native.Mathlib.Omega.{arith}
 use mathlib.Core.Path.{◌∙◌}

@@ -1,7 +1,6 @@
 -- After i turns the first i files are completed and their entries counted; the first file that fails ends the loop. Assumes nothing.
 use Rattle.statics_walk.proofs.Walk.{files_none, files_long, files_stop, files_next, files_end}
 use native.Mathlib.Omega.{arith}
-use Prim.Native.Nat.{◌-◌}
 use Rattle.statics_walk.proofs.walk_files.Goals as goal
 
 pub loop-i-init : goal.loop-i-init
@@ -31,12 +30,6 @@ returns-then-e c =
     let a = c.args in
     let l = c.loop-i in
     files_stop a.order a.file.now a.setting.head a.t a.table.now l.i l.entries l.filled l.table l.invariant _ _ c.walk_file-e.ensures c.loop-i-test.true c.if-e.true
-
-pub overflow_add-i : goal.overflow_add-i
-overflow_add-i c = omega arith
-
-pub loop-i-smaller : goal.loop-i-smaller
-loop-i-smaller c = omega arith
 
 pub loop-i-preserved : goal.loop-i-preserved
 loop-i-preserved c =

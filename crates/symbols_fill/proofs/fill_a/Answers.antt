@@ -5,7 +5,7 @@ use Rattle.elf_check.proofs.Views.{view_table}
 use Rattle.symbols_fill.specs.Fill.{row_a}
 use Rattle.symbols_fill.proofs.Filled.{put_none, put_next, put_all}
 use native.Mathlib.Omega.{arith}
-use Prim.Native.Nat.{◌-◌, ◌<◌}
+use Prim.Native.Nat.{◌<◌}
 use Rattle.symbols_fill.proofs.fill_a.Goals as goal
 
 pub strings_of-strings-requires : goal.strings_of-strings-requires
@@ -41,13 +41,6 @@ write_id-requires c =
     let q = c.requires.0 in
     let t = view_table a.filling.inputs.order a.assembled.now a.filling.inputs.assembled q.viewed.is q.viewed.tabled in
     (omega (arith, c.loop-k-test.true, c.requires.2, l.invariant.1.long, table_count _ _ _ t), c.row_a-row.ensures.1)
-
-pub overflow_add-k : goal.overflow_add-k
-overflow_add-k c =
-    let a = c.args in
-    let q = c.requires.0 in
-    let t = view_table a.filling.inputs.order a.assembled.now a.filling.inputs.assembled q.viewed.is q.viewed.tabled in
-    record { fits = omega (arith, c.loop-k-test.true, q.viewed.tabled.few, table_count _ _ _ t) }
 
 pub loop-k-preserved : goal.loop-k-preserved
 loop-k-preserved c =

@@ -4,7 +4,7 @@ use Rattle.elf_check.proofs.Views.{view_table}
 use Rattle.symbols_fill.specs.Fill.{row_c}
 use Rattle.symbols_fill.proofs.Filled.{put_none, put_next, put_all}
 use native.Mathlib.Omega.{arith}
-use Prim.Native.Nat.{◌+◌, ◌-◌}
+use Prim.Native.Nat.{◌+◌}
 use mathlib.Core.Path.{◌≡◌, ◌∙◌}
 use Rattle.symbols_fill.proofs.fill_c.Goals as goal
 
@@ -31,12 +31,6 @@ write_id-requires c =
     let l = c.loop-k in
     let t = view_table a.inputs.order a.compiled.now a.inputs.compiled c.requires.0.is c.requires.0.tabled in
     (omega (arith, c.loop-k-test.true, c.requires.1, l.invariant.1.long, table_count _ _ _ t), c.row_c-row.ensures.1)
-
-pub overflow_add-k : goal.overflow_add-k
-overflow_add-k c =
-    let a = c.args in
-    let t = view_table a.inputs.order a.compiled.now a.inputs.compiled c.requires.0.is c.requires.0.tabled in
-    record { fits = omega (arith, c.loop-k-test.true, c.requires.0.tabled.few, table_count _ _ _ t) }
 
 pub loop-k-preserved : goal.loop-k-preserved
 loop-k-preserved c =

@@ -2,7 +2,6 @@
 use Rattle.symbols_fill.specs.Fill.{row_static}
 use Rattle.symbols_fill.proofs.Filled.{put_none, put_next, put_all}
 use native.Mathlib.Omega.{arith}
-use Prim.Native.Nat.{◌-◌}
 use Rattle.symbols_fill.proofs.fill_statics.Goals as goal
 
 pub loop-k-init : goal.loop-k-init

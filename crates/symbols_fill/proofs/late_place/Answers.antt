@@ -9,17 +9,17 @@ offset_at-requires c = c.requires c.if-runs.true
 pub overflow_cast-result : goal.overflow_cast-result
 overflow_cast-result c =
     let a = c.args in
-    record { fits = place_small a.late.now (λ i. omega (arith, c.type_inv.late i)) a.blocks a.x _ _ c.offset_at.ensures c.in-Moved.is }
+    record { fits = place_small a.late.now (λ i. omega (arith, c.type_inv.late i)) a.blocks a.x _ _ c.offset_at.ensures c.in-Some.is }
 
-pub returns-in-Moved : goal.returns-in-Moved
-returns-in-Moved c =
+pub returns-in-Some : goal.returns-in-Some
+returns-in-Some c =
     let a = c.args in
-    late_moved a.runs a.late.now a.blocks a.x _ _ c.if-runs.true c.offset_at.ensures c.in-Moved.is
+    late_moved a.runs a.late.now a.blocks a.x _ _ c.if-runs.true c.offset_at.ensures c.in-Some.is
 
-pub returns-in-Unmoved : goal.returns-in-Unmoved
-returns-in-Unmoved c =
+pub returns-in-None : goal.returns-in-None
+returns-in-None c =
     let a = c.args in
-    late_unmoved a.runs a.late.now a.blocks a.x _ c.if-runs.true c.offset_at.ensures c.in-Unmoved.is
+    late_unmoved a.runs a.late.now a.blocks a.x _ c.if-runs.true c.offset_at.ensures c.in-None.is
 
 pub returns : goal.returns
 returns c =

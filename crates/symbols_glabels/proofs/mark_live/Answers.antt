@@ -4,7 +4,6 @@ use Rattle.blocks_places.specs.Table.{places_in}
 use Rattle.symbols_glabels.proofs.Groups.{is_glabel_below, blocks_none, blocks_next, blocks_end}
 use Rattle.symbols_glabels.proofs.Marks.{uniform_marked}
 use native.Mathlib.Omega.{arith}
-use Prim.Native.Nat.{◌-◌}
 use Rattle.symbols_glabels.proofs.mark_live.Goals as goal
 
 pub loop-block-init : goal.loop-block-init

@@ -58,17 +58,17 @@ loop-k-preserved c =
     (walked_next (is_symbol_named a.order a.assembled.now a.name.now) a.put (hash_of a.name.now) a.index.now (symbol_count a.order a.assembled.now) SYMBOL_LIMIT a.marks.now
     (named_hash a.order a.assembled.now a.name.now a.index.now c.requires.1) c.requires.1.indexed l.marks _ l.k (omega (arith, n)) l.invariant c.mark_symbol.ensures.marked)
 
-pub shape_of-marks-else-mark_symbol : goal.shape_of-marks-else-mark_symbol
-shape_of-marks-else-mark_symbol c = c.mark_symbol.ensures.marked.long ∙ c.loop-k.invariant.long
+pub shape_of-marks-then-not-mark_symbol : goal.shape_of-marks-then-not-mark_symbol
+shape_of-marks-then-not-mark_symbol c = c.mark_symbol.ensures.marked.long ∙ c.loop-k.invariant.long
 
-pub returns-else-mark_symbol : goal.returns-else-mark_symbol
-returns-else-mark_symbol c =
+pub returns-then-not-mark_symbol : goal.returns-then-not-mark_symbol
+returns-then-not-mark_symbol c =
     let a = c.args in
     let l = c.loop-k in
     let m = c.mark_symbol in
     let n = table_count a.order a.assembled.now a.symbols c.requires.0 in
     walked_stop (is_symbol_named a.order a.assembled.now a.name.now) a.put (hash_of a.name.now) a.index.now (symbol_count a.order a.assembled.now) SYMBOL_LIMIT a.marks.now
-    (uniform_named a.order a.assembled.now a.name.now a.marks.now c.requires.3) l.marks _ l.k m.result (omega (arith, n)) l.invariant c.if-mark_symbol.false m.ensures
+    (uniform_named a.order a.assembled.now a.name.now a.marks.now c.requires.3) l.marks _ l.k m.result (omega (arith, n)) l.invariant c.if-not-mark_symbol.true m.ensures
 
 pub shape_of-marks : goal.shape_of-marks
 shape_of-marks c = c.loop-k.invariant.long

@@ -5,7 +5,6 @@ use Rattle.symbols_glabels.specs.Words.{size_below}
 use Rattle.symbols_glabels.proofs.Marks.{uniform_holds}
 use Rattle.symbols_glabels.proofs.Words.{sizes_none, sizes_next, sizes_end}
 use native.Mathlib.Omega.{arith}
-use Prim.Native.Nat.{◌-◌}
 use Rattle.symbols_glabels.proofs.mark_sizes.Goals as goal
 
 pub loop-i-init : goal.loop-i-init

@@ -1,5 +1,4 @@
 -- After p turns the first p words are the holders of their positions, and what stands behind them is as before. Assumes nothing.
-use Prim.Native.Nat.{◌-◌}
 use mathlib.Core.Path.{◌≡◌, refl, ◌∙◌}
 use native.Mathlib.Omega.{arith}
 use Rattle.symbols_holders.proofs.Holders.{ready_at}

@@ -1,5 +1,4 @@
 -- After k turns the first k items have the hashes of their positions. Assumes nothing.
-use Prim.Native.Nat.{◌-◌}
 use mathlib.Core.Path.{◌≡◌, refl, ◌∙◌}
 use native.Mathlib.Omega.{arith}
 use Rattle.symbols_holders.proofs.Tables.{known_kept, hashed_none, hashed_next}

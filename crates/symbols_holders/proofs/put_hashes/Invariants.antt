@@ -1,4 +1,4 @@
-use Prim.Native.Nat.{◌-◌, ◌≤◌}
+use Prim.Native.Nat.{◌≤◌}
 use mathlib.Core.Path.{◌≡◌}
 use lib.ListN.{length}
 use Rattle.symbols_holders.specs.Ready.{id_name, KnownHashes, Hashed}
@@ -6,6 +6,3 @@ use Rattle.symbols_holders.proofs.put_hashes.Given as goal
 
 abbrev pub invariant-loop-k : goal.invariant-loop-k
 invariant-loop-k l = (l.k ≤ l.m) × (length l.index ≡ length l.initial.index) × Hashed (id_name l.order l.compiled l.assembled l.statics l.sources) l.list l.index l.k × KnownHashes l.order l.assembled l.known l.index
-
-abbrev pub decreases-loop-k : goal.decreases-loop-k
-decreases-loop-k l = l.m - l.k

@@ -1,19 +1,26 @@
 -- A turn takes the last digit off, and one fewer is left to take off. Assumes nothing.
+use Rattle.symbols_names.specs.Names.{without_last}
 use Rattle.symbols_names.proofs.Tails.{without_next, without_none}
 use native.Mathlib.Omega.{arith}
-use Prim.Native.Nat.{ℕ, ◌+◌, ◌%◌}
-use mathlib.Core.Path.{refl, sym, ap, ◌∙◌}
+use Prim.Native.Nat.{ℕ, ◌+◌, ◌-◌, ◌/◌, ◌%◌}
+use mathlib.Core.Path.{◌≡◌, sym, ap, ◌∙◌}
 use Rattle.symbols_names.proofs.digit_before.Goals as goal
 
-pub loop-k-init : goal.loop-k-init
-loop-k-init c = refl
+pub loop-init : goal.loop-init
+loop-init c =
+    let a = c.args in
+    let e : a.low - 0 ≡ a.low = omega arith in
+    sym (ap (λ (k : ℕ). without_last k a.number) e)
 
-pub loop-k-preserved : goal.loop-k-preserved
-loop-k-preserved c =
-    let l = c.loop-k in
-    l.invariant ∙ without_next l.k l.n c.loop-k-test.true
+pub loop-preserved : goal.loop-preserved
+loop-preserved c =
+    let a = c.args in
+    let l = c.loop in
+    let e : a.low - l.counter - 1 ≡ a.low - (l.counter + 1) = omega arith in
+    l.invariant ∙ without_next (a.low - l.counter) l.n (omega arith) ∙ ap (λ (k : ℕ). without_last k (l.n / 10)) e
 
 pub returns : goal.returns
 returns c =
-    let l = c.loop-k in
-    ap (λ (x : ℕ). 48 + x % 10) (sym (l.invariant ∙ without_none l.k l.n (omega arith)))
+    let a = c.args in
+    let l = c.loop in
+    ap (λ (x : ℕ). 48 + x % 10) (sym (l.invariant ∙ without_none (a.low - l.counter) l.n (omega arith)))

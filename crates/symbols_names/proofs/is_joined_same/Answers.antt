@@ -3,7 +3,6 @@ use Rattle.base_lists.proofs.Strings.{same_long, same_end}
 use Rattle.symbols_names.proofs.Tails.{bytes_next, bytes_not}
 use Rattle.statics_table.specs.Statics.{count_tail}
 use native.Mathlib.Omega.{arith}
-use Prim.Native.Nat.{◌-◌}
 use mathlib.Core.Path.{refl, sym, ◌∙◌}
 use mathlib.Core.List.{◌++◌}
 use Rattle.symbols_names.proofs.is_joined_same.Goals as goal
@@ -33,17 +32,17 @@ loop-i-preserved c =
     let y = s.b.now ++ count_tail s.n in
     let p = c.joined_length-long.ensures in
     let q = c.joined_length-other.ensures in
-    l.invariant ∙ bytes_next x y l.i (omega (arith, p)) (omega (arith, p, q)) _ c.is_same_byte.ensures c.if-is_same_byte.true
+    l.invariant ∙ bytes_next x y l.i (omega (arith, p)) (omega (arith, p, q)) _ c.is_same_byte.ensures c.if-not-is_same_byte.false
 
-pub returns-else-is_same_byte : goal.returns-else-is_same_byte
-returns-else-is_same_byte c =
+pub returns-then-not-is_same_byte : goal.returns-then-not-is_same_byte
+returns-then-not-is_same_byte c =
     let s = c.args in
     let l = c.loop-i in
     let x = s.a.now ++ count_tail s.m in
     let y = s.b.now ++ count_tail s.n in
     let p = c.joined_length-long.ensures in
     let q = c.joined_length-other.ensures in
-    sym (l.invariant ∙ bytes_not x y l.i (omega (arith, p)) (omega (arith, p, q)) _ c.is_same_byte.ensures c.if-is_same_byte.false)
+    sym (l.invariant ∙ bytes_not x y l.i (omega (arith, p)) (omega (arith, p, q)) _ c.is_same_byte.ensures c.if-not-is_same_byte.true)
 
 pub returns : goal.returns
 returns c =

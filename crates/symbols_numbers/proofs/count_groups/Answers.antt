@@ -1,5 +1,4 @@
 -- After p turns the holders below p are counted in their groups. Assumes nothing.
-use Prim.Native.Nat.{◌-◌}
 use native.Mathlib.Omega.{arith}
 use Rattle.symbols_numbers.proofs.Counts.{counts_none, counts_small, counts_end, counting_next}
 use Rattle.symbols_numbers.proofs.count_groups.Goals as goal
@@ -23,9 +22,6 @@ count_behind-requires c =
 
 pub bounds-counts-g-in-loop-p : goal.bounds-counts-g-in-loop-p
 bounds-counts-g-in-loop-p c = omega (arith, c.loop-p.invariant.long, c.result_group-g.ensures)
-
-pub overflow_add-p : goal.overflow_add-p
-overflow_add-p c = omega (arith, c.requires.few)
 
 pub loop-p-preserved : goal.loop-p-preserved
 loop-p-preserved c =

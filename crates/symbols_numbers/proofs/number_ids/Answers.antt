@@ -1,5 +1,4 @@
 -- After p turns every id has its number by the first p positions; at the end these are all. Assumes nothing.
-use Prim.Native.Nat.{◌-◌}
 use mathlib.Core.Path.{refl, ◌∙◌}
 use native.Mathlib.Omega.{arith}
 use Rattle.symbols_numbers.proofs.Counts.{next_none, next_moved, next_at}
@@ -32,9 +31,6 @@ number_position-requires c =
 
 pub bounds-next-g-in-loop-p : goal.bounds-next-g-in-loop-p
 bounds-next-g-in-loop-p c = omega (arith, c.loop-p.invariant.1.long, c.result_group-g.ensures)
-
-pub overflow_add-p : goal.overflow_add-p
-overflow_add-p c = omega (arith, c.requires.0.few)
 
 pub loop-p-preserved : goal.loop-p-preserved
 loop-p-preserved c =

@@ -1,5 +1,4 @@
 -- After p turns each holder below p stands at its place; at the end these are all. Assumes nothing.
-use Prim.Native.Nat.{◌-◌}
 use mathlib.Core.Path.{refl, ◌∙◌}
 use native.Mathlib.Omega.{arith}
 use Rattle.symbols_numbers.proofs.Counts.{next_none, next_moved, next_at}
@@ -31,9 +30,6 @@ order_position-requires c =
 
 pub bounds-next-g-in-loop-p : goal.bounds-next-g-in-loop-p
 bounds-next-g-in-loop-p c = omega (arith, c.loop-p.invariant.1.long, c.result_group-g.ensures)
-
-pub overflow_add-p : goal.overflow_add-p
-overflow_add-p c = omega (arith, c.requires.0.few)
 
 pub loop-p-preserved : goal.loop-p-preserved
 loop-p-preserved c =

@@ -1,4 +1,3 @@
-use Prim.Native.Nat.{◌-◌}
 use mathlib.Core.Path.{◌≡◌}
 use lib.ListN.{length}
 use Rattle.symbols_numbers.proofs.Counts.{Nexts}
@@ -7,6 +6,3 @@ use Rattle.symbols_numbers.proofs.order_positions.Given as goal
 
 abbrev pub invariant-loop-p : goal.invariant-loop-p
 invariant-loop-p l = (length l.order ≡ length l.initial.order) × Nexts l.rows l.list l.holders l.m l.p l.next × Ordering l.rows l.list l.holders l.m l.p l.order
-
-abbrev pub decreases-loop-p : goal.decreases-loop-p
-decreases-loop-p l = l.m - l.p

@@ -1,7 +1,6 @@
 -- After i turns the ids of the group below i stand behind those before them. Assumes nothing.
 use Rattle.symbols_rows.proofs.Listing.{appending_none, appending_room, appending_next, appending_end}
 use native.Mathlib.Omega.{arith}
-use Prim.Native.Nat.{◌-◌}
 use Rattle.symbols_rows.proofs.append_group.Goals as goal
 
 pub loop-i-init : goal.loop-i-init

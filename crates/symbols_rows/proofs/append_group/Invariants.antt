@@ -1,9 +1,5 @@
 use Rattle.symbols_rows.proofs.Listing.{Appending}
-use Prim.Native.Nat.{◌-◌}
 use Rattle.symbols_rows.proofs.append_group.Given as goal
 
 abbrev pub invariant-loop-i : goal.invariant-loop-i
 invariant-loop-i l = Appending l.rows l.n l.group l.m l.initial.list l.i l.r l.list
-
-abbrev pub decreases-loop-i : goal.decreases-loop-i
-decreases-loop-i l = l.n - l.i

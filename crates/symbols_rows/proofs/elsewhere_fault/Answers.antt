@@ -2,7 +2,6 @@
 use Rattle.symbols_rows.specs.Rows.{elsewhere_in}
 use Rattle.symbols_rows.proofs.Faults.{fault_here, fault_next, fault_none}
 use native.Mathlib.Omega.{arith}
-use Prim.Native.Nat.{◌-◌}
 use mathlib.Core.Path.{refl}
 use Rattle.symbols_rows.proofs.elsewhere_fault.Goals as goal
 

@@ -1,4 +1,5 @@
 -- 18 and 19; where neither refuses, the numbers. Assumes nothing.
+use Rattle.base_scope.proofs.Refusals.{err_through}
 use Rattle.symbols_stage.proofs.End.{counts_low, end_numbered, end_refused}
 use Rattle.symbols_stage.proofs.number_list.Goals as goal
 
@@ -7,6 +8,11 @@ symbols_verdict-requires c =
     let pre = c.requires in
     pre.0.held
 
+pub returns-in_err-symbols_verdict : goal.returns-in_err-symbols_verdict
+returns-in_err-symbols_verdict c =
+    let args = c.args in
+    rw (err_through c.from_residual.ensures.1) (end_refused _ _ _ args.m args.ids args.statics _ c.symbols_verdict.ensures _ _ _ _ c.in_err-symbols_verdict.was)
+
 pub counts_of-requires : goal.counts_of-requires
 counts_of-requires c =
     let args = c.args in
@@ -14,16 +20,8 @@ counts_of-requires c =
     let number-positions = c.number_positions-starts in
     counts_low _ _ _ args.m pre.0 _ number-positions.ensures.groups
 
-pub returns-in-Passed : goal.returns-in-Passed
-returns-in-Passed c =
+pub returns : goal.returns
+returns c =
     let args = c.args in
-    let symbols-verdict = c.symbols_verdict in
     let number-positions = c.number_positions-starts in
-    let Counts-of = c.counts_of in
-    end_numbered _ _ _ args.m args.ids args.statics _ symbols-verdict.ensures _ c.in-Passed.is _ number-positions.ensures _ Counts-of.ensures
-
-pub returns-in-Refused : goal.returns-in-Refused
-returns-in-Refused c =
-    let args = c.args in
-    let symbols-verdict = c.symbols_verdict in
-    end_refused _ _ _ args.m args.ids args.statics _ symbols-verdict.ensures _ _ _ _ c.in-Refused.is
+    end_numbered _ _ _ args.m args.ids args.statics _ c.symbols_verdict.ensures _ c.in_ok-symbols_verdict.was _ number-positions.ensures _ c.counts_of.ensures

@@ -1,33 +1,12 @@
 -- After k turns the first k entries stand there, one behind the other. Assumes nothing.
-use native.Mathlib.Omega.{arith}
-use Prim.Native.Nat.{◌-◌}
-use Rattle.symbols_table.proofs.Entries.{wrote_none, wrote_room, wrote_next, wrote_end}
+use mathlib.Core.Path.{refl}
+use Rattle.symbols_table.proofs.Entries.{wrote_none, wrote_next, wrote_end}
 use Rattle.symbols_table.proofs.write_symbols.Goals as goal
 
 pub loop-k-init : goal.loop-k-init
 loop-k-init c =
     let a = c.args in
     wrote_none a.compiled.now a.assembled.now a.statics.now a.marks.now a.rows.now a.list.now a.order.now a.n a.out.now a.at
-
-pub entry_at-e-requires : goal.entry_at-e-requires
-entry_at-e-requires c =
-    (c.requires.0, c.loop-k-test.true)
-
-pub overflow_mul-k : goal.overflow_mul-k
-overflow_mul-k c =
-    record { fits = omega (arith, c.requires.1, c.loop-k-test.true) }
-
-pub overflow_add-at : goal.overflow_add-at
-overflow_add-at c =
-    record { fits = omega (arith, c.requires.1, c.loop-k-test.true) }
-
-pub write-requires : goal.write-requires
-write-requires c =
-    let a = c.args in
-    let l = c.loop-k in (
-      wrote_room a.compiled.now a.assembled.now a.statics.now a.marks.now a.rows.now a.list.now a.order.now a.n a.out.now a.at l.k l.out l.invariant c.requires.1 c.loop-k-test.true,
-      c.entry_at-e.ensures.1,
-    )
 
 pub loop-k-preserved : goal.loop-k-preserved
 loop-k-preserved c =
@@ -36,11 +15,8 @@ loop-k-preserved c =
     let w = c.write in
     wrote_next a.compiled.now a.assembled.now a.statics.now a.marks.now a.rows.now a.list.now a.order.now a.n a.out.now a.at l.k l.out l.invariant c.requires.1 _ _ c.loop-k-test.true c.entry_at-e.ensures.0 w.auto.s w.ensures
 
-pub shape_of-out : goal.shape_of-out
-shape_of-out c = c.loop-k.invariant.long
-
 pub returns : goal.returns
 returns c =
     let a = c.args in
     let l = c.loop-k in
-    wrote_end a.compiled.now a.assembled.now a.statics.now a.marks.now a.rows.now a.list.now a.order.now a.n a.out.now a.at l.k l.out l.invariant c.requires.1 c.loop-k-test.false
+    (wrote_end a.compiled.now a.assembled.now a.statics.now a.marks.now a.rows.now a.list.now a.order.now a.n a.out.now a.at l.k l.out l.invariant c.requires.1 c.loop-k-test.false, refl)

@@ -6,7 +6,6 @@ use Rattle.symbols_taken.specs.Code.{is_homeless_in}
 use Rattle.symbols_taken.proofs.Symbols.{view_symbols}
 use Rattle.symbols_taken.proofs.Faults.{homeless_at_lem, homeless_none}
 use native.Mathlib.Omega.{arith}
-use Prim.Native.Nat.{◌-◌}
 use mathlib.Core.Path.{◌≡◌, refl, sym, ◌∙◌}
 use Rattle.symbols_taken.proofs.homeless_fault.Goals as goal
 
@@ -38,11 +37,6 @@ returns-then-is_homeless c =
     let h = c.loop-k-test.true in
     let n = a.view.symbols.count in
     homeless_at_lem a.compiled a.view a.order a.assembled.now n (view_symbols a.order a.assembled.now a.view c.requires.0) l.k h (l.invariant.1 ∙ first_here (is_homeless_in a.compiled a.view a.order a.assembled.now) l.k n h (sym c.is_homeless.ensures ∙ c.if-is_homeless.true))
-
-pub overflow_add-k : goal.overflow_add-k
-overflow_add-k c =
-    let a = c.args in
-    omega (arith, view_symbols a.order a.assembled.now a.view c.requires.0, c.requires.0.tabled.few)
 
 pub loop-k-preserved : goal.loop-k-preserved
 loop-k-preserved c =

@@ -5,15 +5,15 @@ use Rattle.symbols_taken.proofs.is_moved.Goals as goal
 pub offset_at-requires : goal.offset_at-requires
 offset_at-requires c = c.requires c.if-runs.true
 
-pub returns-in-Moved : goal.returns-in-Moved
-returns-in-Moved c =
+pub returns-in-Some : goal.returns-in-Some
+returns-in-Some c =
     let a = c.args in
-    moved_yes a.runs a.late.now a.blocks a.x _ _ c.if-runs.true c.offset_at.ensures c.in-Moved.is
+    moved_yes a.runs a.late.now a.blocks a.x _ _ c.if-runs.true c.offset_at.ensures c.in-Some.is
 
-pub returns-in-Unmoved : goal.returns-in-Unmoved
-returns-in-Unmoved c =
+pub returns-in-None : goal.returns-in-None
+returns-in-None c =
     let a = c.args in
-    moved_no a.runs a.late.now a.blocks a.x _ c.if-runs.true c.offset_at.ensures c.in-Unmoved.is
+    moved_no a.runs a.late.now a.blocks a.x _ c.if-runs.true c.offset_at.ensures c.in-None.is
 
 pub returns : goal.returns
 returns c =

@@ -3,7 +3,7 @@ use Rattle.symbols_taken.specs.Code.{used_below}
 use Rattle.symbols_taken.proofs.Sections.{table_kind}
 use Rattle.symbols_taken.proofs.Marks.{length_marked, marked_none, marked_then, marked_info, entry_zero, entry_next, entry_all, entry_inside_lem}
 use native.Mathlib.Omega.{arith}
-use Prim.Native.Nat.{◌+◌, ◌-◌}
+use Prim.Native.Nat.{◌+◌}
 use mathlib.Core.Path.{ap, ◌∙◌}
 use lib.ListN.{length}
 use Rattle.elf_records.specs.declared.section.SectionHeader.{SectionHeader}

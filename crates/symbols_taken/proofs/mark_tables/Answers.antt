@@ -5,7 +5,7 @@ use Rattle.symbols_taken.specs.Used.{is_used}
 use Rattle.symbols_taken.specs.Code.{marked, used_in, used_to}
 use Rattle.symbols_taken.proofs.Marks.{length_marked, marked_none, marked_then, table_zero_lem, table_next, table_all}
 use native.Mathlib.Omega.{arith}
-use Prim.Native.Nat.{zero, ◌+◌, ◌-◌}
+use Prim.Native.Nat.{◌+◌}
 use mathlib.Core.Path.{ap, ◌∙◌}
 use lib.ListN.{length}
 use Rattle.symbols_taken.proofs.mark_tables.Goals as goal

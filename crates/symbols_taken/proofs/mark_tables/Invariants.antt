@@ -1,11 +1,8 @@
 use Rattle.symbols_taken.specs.Code.{marked, used_to}
-use Prim.Native.Nat.{◌-◌, ◌≤◌}
+use Prim.Native.Nat.{◌≤◌}
 use mathlib.Core.Path.{◌≡◌}
 use Rattle.symbols_taken.proofs.mark_tables.Given as goal
 
 abbrev pub invariant-loop-t : goal.invariant-loop-t
 invariant-loop-t l =
     (l.t ≤ l.n) × (l.used ≡ marked (used_to l.order l.assembled l.t) l.initial.used)
-
-abbrev pub decreases-loop-t : goal.decreases-loop-t
-decreases-loop-t l = l.n - l.t

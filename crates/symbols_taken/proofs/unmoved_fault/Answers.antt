@@ -6,7 +6,6 @@ use Rattle.symbols_taken.specs.Code.{is_unmoved_in}
 use Rattle.symbols_taken.proofs.Symbols.{view_symbols}
 use Rattle.symbols_taken.proofs.Faults.{unmoved_at_lem, unmoved_none}
 use native.Mathlib.Omega.{arith}
-use Prim.Native.Nat.{◌-◌}
 use mathlib.Core.Path.{◌≡◌, refl, sym, ◌∙◌}
 use Rattle.symbols_taken.proofs.unmoved_fault.Goals as goal
 

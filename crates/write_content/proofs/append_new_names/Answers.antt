@@ -1,5 +1,4 @@
 -- What is written so far are the names of the new sections before section i, and each moves the end by at most 13. Assumes nothing.
-use Prim.Native.Nat.{◌-◌}
 use mathlib.Core.Path.{◌≡◌, ap}
 use native.Mathlib.Omega.{arith}
 use Rattle.base_lists.proofs.Written.{written_as}

@@ -3,7 +3,7 @@ use Rattle.write_merged.proofs.Plans.{sized_none, sized_more, sized_all}
 use Rattle.write_merged.proofs.Merged.{spans_same, spans_then, ready_still, total_is, total_few}
 use Rattle.write_planned.specs.Held.{held_plan}
 use native.Mathlib.Omega.{arith}
-use Prim.Native.Nat.{◌-◌, ◌<◌}
+use Prim.Native.Nat.{◌<◌}
 use mathlib.Core.Path.{◌≡◌, refl, ◌∙◌}
 use lib.ListN.{length, length-set}
 use Rattle.write_merged.proofs.measure_sections.Goals as goal

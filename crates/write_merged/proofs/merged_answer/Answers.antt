@@ -16,14 +16,14 @@ moved_fault-requires c =
 pub place_merged-requires : goal.place_merged-requires
 place_merged-requires c =
     let a = c.args in
-    (ready_still a.compiled.now a.assembled.now a.file.now a.path.now a.x a.table.now a.places.now a.steps.now a.index.now c.requires _ (spans_then _ _ _ c.measure_sections.ensures.1 c.moved_fault.ensures.1), c.measure_sections.ensures.0, sym c.moved_fault.ensures.0 ∙ c.in-Clear.is)
+    (ready_still a.compiled.now a.assembled.now a.file.now a.path.now a.x a.table.now a.places.now a.steps.now a.index.now c.requires _ (spans_then _ _ _ c.measure_sections.ensures.1 c.moved_fault.ensures.1), c.measure_sections.ensures.0, sym c.moved_fault.ensures.0 ∙ c.in-None.is)
 
-pub returns-in-Clear : goal.returns-in-Clear
-returns-in-Clear c =
+pub returns-in-None : goal.returns-in-None
+returns-in-None c =
     let a = c.args in
-    answered_as _ _ _ _ _ (answer_clear a.compiled.now a.assembled.now a.file.now a.path.now a.x a.table.now a.places.now a.steps.now a.index.now c.requires _ (sym c.moved_fault.ensures.0 ∙ c.in-Clear.is)) c.place_merged.ensures
+    answered_as _ _ _ _ _ (answer_clear a.compiled.now a.assembled.now a.file.now a.path.now a.x a.table.now a.places.now a.steps.now a.index.now c.requires _ (sym c.moved_fault.ensures.0 ∙ c.in-None.is)) c.place_merged.ensures
 
-pub returns-in-At : goal.returns-in-At
-returns-in-At c =
+pub returns-in-Some : goal.returns-in-Some
+returns-in-Some c =
     let a = c.args in
-    answered_as _ _ _ _ _ (answer_refused a.compiled.now a.assembled.now a.file.now a.path.now a.x a.table.now a.places.now a.steps.now a.index.now c.requires _ _ (sym c.moved_fault.ensures.0 ∙ c.in-At.is)) (answered_refused _ _ _ _ _ _ c.refusal.ensures refl)
+    answered_as _ _ _ _ _ (answer_refused a.compiled.now a.assembled.now a.file.now a.path.now a.x a.table.now a.places.now a.steps.now a.index.now c.requires _ _ (sym c.moved_fault.ensures.0 ∙ c.in-Some.is)) (answered_refused _ _ _ _ _ _ c.refused.ensures refl)

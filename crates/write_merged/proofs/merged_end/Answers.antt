@@ -4,7 +4,6 @@ use Rattle.write_merged.proofs.Merged.{spans_same, spans_then, ready_still, tota
 use Rattle.write_merged.specs.Merged.{plan_end}
 use Rattle.write_planned.specs.Held.{held_plan}
 use native.Mathlib.Omega.{arith}
-use Prim.Native.Nat.{◌-◌}
 use mathlib.Core.Path.{◌≡◌, ap, ◌∙◌}
 use Rattle.write_merged.proofs.merged_end.Goals as goal
 

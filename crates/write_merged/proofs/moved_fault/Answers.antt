@@ -3,7 +3,6 @@ use Rattle.write_merged.proofs.Plans.{plan_first, fault_here, fault_next, fault_
 use Rattle.write_merged.proofs.Merged.{spans_same, spans_then, ready_still, total_is, total_few}
 use Rattle.write_planned.specs.Held.{held_plan}
 use native.Mathlib.Omega.{arith}
-use Prim.Native.Nat.{◌-◌}
 use mathlib.Core.Path.{refl, sym, ◌∙◌}
 use Rattle.write_merged.proofs.moved_fault.Goals as goal
 

@@ -56,4 +56,4 @@ returns c =
     let l = c.if-long-out.false in
     let n = c.section_total-many.ensures ∙ total_is a.compiled.now a.assembled.now a.file.now a.path.now a.x a.table.now a.places.now a.steps.now a.index.now p.0 in
     let w = held_counted a.compiled.now a.assembled.now a.file.now a.path.now a.x a.table.now a.places.now a.steps.now a.index.now p.0 p.2 _ _ _ c.merged_end-end.ensures.0 c.aligned_to-at.ensures n a.out.now (omega (arith, l)) in
-    room_short _ _ _ _ _ w (omega (arith, l)) c.refusal.ensures
+    room_short _ _ _ _ _ w (omega (arith, l)) c.refused.ensures

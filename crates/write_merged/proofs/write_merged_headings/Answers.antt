@@ -6,7 +6,7 @@ use Rattle.write_object.proofs.Writing.{headings_start, headings_turn}
 use Rattle.write_planned.specs.Held.{held_plan}
 use Rattle.base_lists.specs.Windows.{spliced}
 use native.Mathlib.Omega.{arith}
-use Prim.Native.Nat.{ℕ, ◌-◌}
+use Prim.Native.Nat.{ℕ}
 use mathlib.Core.Path.{◌≡◌, refl, ap, ◌∙◌}
 use Rattle.write_merged.proofs.write_merged_headings.Goals as goal
 

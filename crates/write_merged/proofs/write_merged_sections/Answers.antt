@@ -8,7 +8,7 @@ use Rattle.write_planned.specs.Held.{held_plan}
 use Rattle.write_image.specs.Layout.{HEADER_END}
 use Rattle.base_lists.specs.Windows.{spliced}
 use native.Mathlib.Omega.{arith}
-use Prim.Native.Nat.{ℕ, ◌+◌, ◌-◌}
+use Prim.Native.Nat.{ℕ, ◌+◌}
 use mathlib.Core.Path.{◌≡◌, refl, ap, ◌∙◌}
 use Rattle.write_merged.proofs.write_merged_sections.Goals as goal
 

@@ -3,7 +3,7 @@ use Rattle.write_object.specs.Steps.{pieces_of}
 use Rattle.write_planned.specs.Held.{SpansOver, held_plan}
 use Rattle.write_image.specs.Layout.{HEADER_END}
 use Rattle.base_lists.specs.Windows.{spliced}
-use Prim.Native.Nat.{◌-◌, ◌≤◌}
+use Prim.Native.Nat.{◌≤◌}
 use mathlib.Core.Path.{◌≡◌}
 use lib.ListN.{length}
 use Rattle.write_merged.proofs.write_merged_sections.Given as goal
@@ -12,6 +12,3 @@ abbrev pub invariant-loop-i : goal.invariant-loop-i
 invariant-loop-i l =
     (l.i ≤ l.n) × (l.end ≡ plan_end (held_plan l.compiled l.assembled l.file l.path l.x l.places) l.i) × SpansOver l.initial.index l.index × (length l.out ≡ length l.initial.out)
     × (l.out ≡ spliced l.initial.out HEADER_END (pieces_of (held_plan l.compiled l.assembled l.file l.path l.x l.places) l.x.stage.inputs.order l.i))
-
-abbrev pub decreases-loop-i : goal.decreases-loop-i
-decreases-loop-i l = l.n - l.i

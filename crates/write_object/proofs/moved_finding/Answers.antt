@@ -1,7 +1,6 @@
 -- A search for a section that cannot move: none before i is one. Assumes nothing.
 use Rattle.write_object.proofs.Own.{own_first, finding_here, finding_next, finding_none}
 use native.Mathlib.Omega.{arith}
-use Prim.Native.Nat.{◌-◌}
 use mathlib.Core.Path.{refl, sym, ◌∙◌}
 use Rattle.write_object.proofs.moved_finding.Goals as goal
 

@@ -2,7 +2,6 @@
 use Rattle.write_object.proofs.Own.{own_first}
 use Rattle.write_object.specs.Own.{own_end}
 use native.Mathlib.Omega.{arith}
-use Prim.Native.Nat.{◌-◌}
 use mathlib.Core.Path.{◌≡◌, sym, ap, ◌∙◌}
 use Rattle.write_object.proofs.own_end.Goals as goal
 

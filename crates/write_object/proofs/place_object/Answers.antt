@@ -36,4 +36,4 @@ returns c =
     let a = c.args in
     let l = c.if-long-out.false in
     let w = own_counted a.order a.file.now c.requires.1 _ _ _ c.own_end-end.ensures c.aligned_to-at.ensures c.section_count-many.ensures.0 a.out.now (omega (arith, l)) in
-    room_short _ _ _ _ _ w (omega (arith, l)) c.refusal.ensures
+    room_short _ _ _ _ _ w (omega (arith, l)) c.refused.ensures

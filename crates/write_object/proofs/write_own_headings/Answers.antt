@@ -5,7 +5,7 @@ use Rattle.write_object.specs.Own.{own_plan}
 use Rattle.write_object.specs.Steps.{headings_of}
 use Rattle.base_lists.specs.Windows.{spliced}
 use native.Mathlib.Omega.{arith}
-use Prim.Native.Nat.{ℕ, ◌-◌}
+use Prim.Native.Nat.{ℕ}
 use mathlib.Core.Path.{◌≡◌, refl, sym, ap, ◌∙◌}
 use Rattle.write_object.proofs.write_own_headings.Goals as goal
 

@@ -1,13 +1,10 @@
 use Rattle.write_object.specs.Own.{own_plan, own_end}
 use Rattle.write_object.specs.Steps.{headings_of}
 use Rattle.base_lists.specs.Windows.{spliced}
-use Prim.Native.Nat.{◌-◌, ◌≤◌}
+use Prim.Native.Nat.{◌≤◌}
 use mathlib.Core.Path.{◌≡◌}
 use lib.ListN.{length}
 use Rattle.write_object.proofs.write_own_headings.Given as goal
 
 abbrev pub invariant-loop-i : goal.invariant-loop-i
 invariant-loop-i l = (l.i ≤ l.n) × (l.end ≡ own_end l.order l.file l.i) × (length l.out ≡ length l.initial.out) × (l.out ≡ spliced l.initial.out l.at (headings_of (own_plan l.order l.file) l.order l.i))
-
-abbrev pub decreases-loop-i : goal.decreases-loop-i
-decreases-loop-i l = l.n - l.i

@@ -7,7 +7,7 @@ use Rattle.write_image.specs.Layout.{HEADER_END}
 use Rattle.base_lists.specs.Windows.{spliced}
 use Rattle.elf_readers.specs.Readers.{section_count}
 use native.Mathlib.Omega.{arith}
-use Prim.Native.Nat.{ℕ, ◌+◌, ◌-◌}
+use Prim.Native.Nat.{ℕ, ◌+◌}
 use mathlib.Core.Path.{◌≡◌, refl, sym, ap, ◌∙◌}
 use Rattle.write_object.proofs.write_own_sections.Goals as goal
 

@@ -1,5 +1,4 @@
 -- What is written so far are the strings of the statics before static k, and each moves the end by less than 2 ^ 21. Assumes nothing.
-use Prim.Native.Nat.{◌-◌}
 use mathlib.Core.Path.{◌≡◌, ap}
 use native.Mathlib.Omega.{arith}
 use Rattle.base_lists.proofs.Written.{written_as}

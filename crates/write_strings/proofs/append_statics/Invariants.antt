@@ -1,4 +1,4 @@
-use Prim.Native.Nat.{◌+◌, ◌-◌, ◌*◌, ◌^◌, ◌≤◌}
+use Prim.Native.Nat.{◌+◌, ◌*◌, ◌^◌, ◌≤◌}
 use Rattle.base_lists.specs.Written.{Written}
 use Rattle.statics_table.specs.Table.{static_in}
 use Rattle.write_strings.specs.Strings.{strings_below}
@@ -7,7 +7,3 @@ use Rattle.write_strings.proofs.append_statics.Given as goal
 abbrev pub invariant-loop-k : goal.invariant-loop-k
 invariant-loop-k l =
     (l.k ≤ l.n) × (l.next ≤ l.at + l.k * 2 ^ 21) × Written l.initial.out l.at (strings_below l.mode l.path l.compiled (static_in l.statics) l.k) l.next l.out
-
-abbrev pub decreases-loop-k : goal.decreases-loop-k
-decreases-loop-k l =
-    l.n - l.k

@@ -1,5 +1,4 @@
 -- What is written so far is what the rows before row j bring, and each moves the end by at most the length of A. Assumes nothing.
-use Prim.Native.Nat.{◌-◌}
 use mathlib.Core.Path.{◌≡◌, ap}
 use native.Mathlib.Omega.{arith}
 use Rattle.base_lists.proofs.Written.{written_as}

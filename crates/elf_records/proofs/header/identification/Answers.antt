@@ -1,7 +1,7 @@
 -- `identification` meets its contract: after i turns the array holds the first i bytes, and zeros behind them.
 -- Assumes nothing.
 use native.Mathlib.Omega.{arith}
-use Prim.Native.Nat.{ℕ, ◌+◌, ◌-◌, ◌≤◌, ◌<◌}
+use Prim.Native.Nat.{ℕ, ◌+◌, ◌≤◌, ◌<◌}
 use mathlib.Core.Path.{◌≡◌, sym, ◌∙◌}
 use mathlib.Core.List.{List}
 use lib.ListN.{length, get_or, take, drop, set}
@@ -26,16 +26,16 @@ filled s at m i h k e =
     spliced_filled (replicate 16 0) (take 16 (drop at s)) m i n (omega arith) e
 
 pub loop-i-init : goal.loop-i-init
-loop-i-init c = (omega arith, sym (spliced_nil (replicate 16 0) 0))
+loop-i-init c = sym (spliced_nil (replicate 16 0) 0)
 
 pub loop-i-preserved : goal.loop-i-preserved
 loop-i-preserved c =
     let a = c.args in
     let l = c.loop-i in
-    (omega arith, next a.s.now a.at l.ident l.i c.requires (omega arith) l.invariant.1)
+    next a.s.now a.at l.ident l.i c.requires (omega arith) l.invariant
 
 pub returns : goal.returns
 returns c =
     let a = c.args in
     let l = c.loop-i in
-    filled a.s.now a.at l.ident l.i c.requires (omega arith) l.invariant.1
+    filled a.s.now a.at l.ident l.i c.requires (omega arith) l.invariant

@@ -1,7 +1,7 @@
 -- `Hdrr::new` meets its contract: after i turns the array holds the first i words, and zeros behind them.
 -- Assumes nothing.
 use native.Mathlib.Omega.{arith}
-use Prim.Native.Nat.{ℕ, ◌+◌, ◌-◌, ◌*◌, ◌≤◌, ◌<◌}
+use Prim.Native.Nat.{ℕ, ◌+◌, ◌*◌, ◌≤◌, ◌<◌}
 use mathlib.Core.Path.{◌≡◌, sym, ◌∙◌}
 use mathlib.Core.List.{List}
 use lib.ListN.{length, take, set}
@@ -28,13 +28,13 @@ filled order s at m i k e =
     spliced_filled (replicate 23 0) (debug_at order s at).words m i n (omega arith) e
 
 pub loop-i-init : goal.loop-i-init
-loop-i-init c = (omega arith, sym (spliced_nil (replicate 23 0) 0))
+loop-i-init c = sym (spliced_nil (replicate 23 0) 0)
 
 pub loop-i-preserved : goal.loop-i-preserved
 loop-i-preserved c =
     let a = c.args in
     let l = c.loop-i in
-    (omega arith, next a.order a.s.now a.at l.words l.i c.read32.result (omega arith) c.read32.ensures l.invariant.1)
+    next a.order a.s.now a.at l.words l.i c.read32.result (omega arith) c.read32.ensures l.invariant
 
 pub returns : goal.returns
 returns c =
@@ -43,5 +43,5 @@ returns c =
     λ k. record {
       magic = (c.read16-magic.ensures.0 ∙ sym (debug_magic a.order a.s.now a.at)) k;
       vstamp = (c.read16-vstamp.ensures.0 ∙ sym (debug_vstamp a.order a.s.now a.at)) k;
-      words = filled a.order a.s.now a.at l.words l.i (omega arith) l.invariant.1 k;
+      words = filled a.order a.s.now a.at l.words l.i (omega arith) l.invariant k;
     }

@@ -1,7 +1,7 @@
 -- `Hdrr::write` meets its contract: two halves and 23 words, one behind the other, are the bytes of the header.
 -- Assumes nothing.
 use native.Mathlib.Omega.{arith}
-use mathlib.Core.Path.{◌≡◌, sym, ◌∙◌}
+use mathlib.Core.Path.{◌≡◌}
 use lib.ListN.{length}
 use Rattle.elf_records.proofs.Writes.{debug_written}
 use Rattle.elf_records.proofs.debug.Hdrr.write.Goals as goal
