@@ -95,6 +95,9 @@ module _ (C A T M R L O : List ℕ) (n : Numbering) where
     entries_long k = gather_all_length entry_bytes 16 (λ j. length_symbol o (entry_in C A T M R L O n j)) k
 
     module _ (k : ℕ) (out : List ℕ) (w : EntriesWritten before at k out) (room : at + 16 * n.count ≤ length before) where
+      pub wrote_room : k < n.count → at + 16 * k + 16 ≤ length out
+      wrote_room h = omega (arith, w.long)
+
       pub wrote_next : (e : SymbolEntry) (after : List ℕ) → k < n.count → e ≡ entry_in C A T M R L O n k → length after ≡ length out → after ≡ spliced out (at + 16 * k) (symbol_bytes o e)
           → EntriesWritten before at (k + 1) after
       wrote_next e after h is kept put =
@@ -110,8 +113,8 @@ module _ (C A T M R L O : List ℕ) (n : Numbering) where
                 ∙ ap (spliced before at) (sym (gather_yes (λ j. true) entry_bytes k refl));
           }
 
-      pub wrote_end : n.count ≤ k → out ≡ spliced before at (symbols_table_in C A T M R L O n)
+      pub wrote_end : n.count ≤ k → (out ≡ spliced before at (symbols_table_in C A T M R L O n)) × (at + 16 * k ≡ at + 16 * n.count)
       unfolding symbols_table_in
       wrote_end h =
           let e : k ≡ n.count = omega (arith, w.below) in
-          w.bytes ∙ ap (λ (j : ℕ). spliced before at (gather (λ i. true) entry_bytes j)) e
+          (w.bytes ∙ ap (λ (j : ℕ). spliced before at (gather (λ i. true) entry_bytes j)) e, ap (λ (j : ℕ). at + 16 * j) e)

@@ -19,4 +19,4 @@ pub returns : goal.returns
 returns c =
     let a = c.args in
     let l = c.loop-k in
-    (wrote_end a.compiled.now a.assembled.now a.statics.now a.marks.now a.rows.now a.list.now a.order.now a.n a.out.now a.at l.k l.out l.invariant c.requires.1 c.loop-k-test.false, refl)
+    ((wrote_end a.compiled.now a.assembled.now a.statics.now a.marks.now a.rows.now a.list.now a.order.now a.n a.out.now a.at l.k l.out l.invariant c.requires.1 c.loop-k-test.false).0, refl)
